@@ -1,8 +1,10 @@
 # Completion of the words of gikvand, venued, venue-replay, venue-events and gikvand-edge, for bash. As a package has it, it is loaded
-# with the first of these words; else: source contrib/gikvand.bash. tests/package compares it with what the programs take.
+# with the first of these words; else: source contrib/gikvand.bash.
 # shellcheck shell=bash
 
 _gikvand_members=(C1 C2 C3 C4 C5 C6 C7 C8)
+
+# made by dev/pages --write: what the commands of gikvand take
 declare -gA _gikvand_options=(
     [verify]="--symbols --edge"
     [reports]="--after --symbols --edge --csv --json"
@@ -11,12 +13,17 @@ declare -gA _gikvand_options=(
     [audit]="--check"
     [why]="--symbols"
     [watch]="--prometheus --quick --symbols"
-    [board]="--port --symbols"
+    [board]="--feed --password-file --ca --port --symbols"
     [trade]="--port --member --journal --symbols --fix"
     [demo]=""
     [day]=""
     [store-contract]="--machine --folder --cut --join --kill --start --stay --rounds --port"
+    [provenance]="--sources"
 )
+_gikvand_valued=" --after --ca --cut --edge --feed --folder --join --journal --kill --machine --member --password-file \
+--port --rounds --sources --start --stay --symbols "
+_gikvand_filed=" --ca --edge --folder --journal --password-file --sources "
+# end of that
 
 # Puts the words up to the cursor into `words`, as the program gets them: bash has cut them at each =.
 _gikvand_words() {
@@ -76,7 +83,7 @@ _gikvand_place() {
     case $command:$# in
         trade:*) _gikvand_request "$begun" "$journal" "$@" ;;
         demo:* | store-contract:*) ;;
-        *:0 | follow:1 | audit:1) _gikvand_files "$begun" ;;
+        *:0 | follow:1 | audit:1 | provenance:*) _gikvand_files "$begun" ;;
         reports:1) _gikvand_of "$begun" "${_gikvand_members[@]}" ;;
         verify:*)
             compopt -o nospace 2>/dev/null
@@ -100,22 +107,26 @@ _gikvand() {
         case ${words[at]} in
             --journal) journal=${words[++at]} ;;
             --journal=*) journal=${words[at]#*=} ;;
-            --symbols | --after | --port | --member | --edge | --machine | --folder | --cut | --join | --kill | --start | --stay | --rounds)
-                ((at += 1))
-                ;;
-            -*) ;;
+            -*) [[ $_gikvand_valued == *" ${words[at]} "* ]] && ((at += 1)) ;;
             *) given+=("${words[at]}") ;;
         esac
     done
-    case $before:$begun in
-        --journal:* | --edge:* | *:--journal=* | *:--edge=*) _gikvand_files "${begun#--*=}" ;;
-        --member:* | *:--member=*) _gikvand_of "${begun#--*=}" 1 2 3 4 5 6 7 8 ;;
-        --symbols:* | --after:* | --port:* | --machine:* | --cut:* | --join:* | --kill:* | --start:* | --stay:* | --rounds:*) ;;
-        --folder:* | *:--folder=*) _gikvand_files "${begun#--*=}" ;;
-        *:-*) _gikvand_of "$begun" "${_gikvand_options[$command]-}" --help ;;
-        *:*=*) _gikvand_files "${begun#*=}" ;;
-        *) _gikvand_place "$command" "$begun" "$journal" "${given[@]}" ;;
-    esac
+    if [[ $begun == --*=* && $_gikvand_valued == *" ${begun%%=*} "* ]]; then
+        before=${begun%%=*} begun=${begun#*=}
+    fi
+    if [[ $before == --member ]]; then
+        _gikvand_of "$begun" 1 2 3 4 5 6 7 8
+    elif [[ $_gikvand_filed == *" $before "* ]]; then
+        _gikvand_files "$begun"
+    elif [[ $_gikvand_valued == *" $before "* ]]; then
+        return
+    elif [[ $begun == -* ]]; then
+        _gikvand_of "$begun" "${_gikvand_options[$command]-}" --help
+    elif [[ $begun == *=* ]]; then
+        _gikvand_files "${begun#*=}"
+    else
+        _gikvand_place "$command" "$begun" "$journal" "${given[@]}"
+    fi
 }
 
 _venued() {

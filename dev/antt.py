@@ -26,23 +26,23 @@ PLAIN = re.compile(r"(?:Type|Bool|ℕ|ℤ|List|Option|Result|Unit)(?=[\s({]|$)[^
 WORKED = re.compile(r"/(Worked\w*|Examples|Vectors|Lib)\.antt$")
 
 
-def indentation(line):
+def indentation(line: str) -> int:
     return len(line) - len(line.lstrip())
 
 
-def read(path):
+def read(path: str) -> list[str]:
     """The lines of a file, without comments."""
     with open(path, encoding="utf-8") as file:
         return [COMMENT.sub("", line.rstrip()) for line in file]
 
 
-def sources(ending):
+def sources(ending: str) -> list[str]:
     """The files of all crates with this ending."""
     found = glob.glob(f"{ROOT}/crates/*/**/*{ending}", recursive=True)
     return sorted(it for it in found if "/out/" not in it)
 
 
-def wide():
+def wide() -> typing.Iterator[tuple[int, str, int]]:
     """The lines of proofs that are wider than a screen: each its width, file and line."""
     for path in sources(".antt"):
         if "/proofs/" in path:
@@ -52,9 +52,9 @@ def wide():
                         yield len(line.rstrip()), os.path.relpath(path, ROOT), number
 
 
-def homes():
+def homes() -> dict[str, set[str]]:
     """Each name of a definition that clauses may cite, with the files of specs that have one of this name."""
-    found = {}
+    found: dict[str, set[str]] = {}
     for path in sources(".antt"):
         if "/specs/" in path:
             for heading in filter(None, map(DEFINITION.match, read(path))):
@@ -62,15 +62,20 @@ def homes():
     return found
 
 
-def goes_on(line, depth, name):
+def goes_on(line: str, depth: int, name: str) -> bool:
     """Whether a line belongs to the declaration of this name that begins at this indentation."""
     said = line.strip()
     if not said or indentation(line) != depth:
         return not said or indentation(line) > depth
-    return said[0] in ")]}" or said.startswith("unfolding ") or bool(re.match(re.escape(name) + r"(?=[\s=]|$)", said))
+    return said[0] in ")]}" or said.startswith("unfolding ") or is_equation(said, name)
 
 
-def declared(lines):
+def is_equation(text: str, name: str) -> bool:
+    """Whether a text begins with a name, as a clause of what is called so does."""
+    return text.startswith(name) and (text[len(name):] or " ")[0] in " \t="
+
+
+def declared(lines: list[str]) -> typing.Iterator[tuple[str, int, int]]:
     """The lemmas of a file, each as its name and the lines from its signature to behind its last clause."""
     for first, line in enumerate(lines):
         if not (heading := SIGNATURE.match(line)) or heading[2] in OTHER:
@@ -79,12 +84,11 @@ def declared(lines):
         last = first + 1
         while last < len(lines) and goes_on(lines[last], depth, name):
             last += 1
-        clause = rf" {{{depth}}}{re.escape(name)}(?=[\s=]|$)"
-        if any(re.match(clause, it) for it in lines[first + 1:last]):
+        if any(is_equation(it, " " * depth + name) for it in lines[first + 1:last]):
             yield name, first, last
 
 
-def without_imports(lines):
+def without_imports(lines: list[str]) -> typing.Iterator[tuple[int, str]]:
     """The numbered lines, but for those that import names."""
     within = False
     for number, line in enumerate(lines):
@@ -95,20 +99,21 @@ def without_imports(lines):
             yield number, line
 
 
-def unnamed():
+def unnamed() -> list[tuple[str, int, str]]:
     """Each lemma that no code, answer, definition or living lemma names: its file, line and name.
 
     Names are told apart by their spelling alone, so two lemmas of one name live together. Files of worked examples
     (`Worked*`, `Examples`, `Vectors`) are computed by the check, and named by nothing.
     """
     texts = {path: read(path) for path in sources(".antt") + sources(".rt")}
-    places, owners = {}, {}
+    places: dict[str, list[tuple[str, int]]] = {}
+    owners: dict[tuple[str, int], tuple[str, int]] = {}
     for path in texts:
         if LEMMAS.search(path) and not WORKED.search(path):
             for name, first, last in declared(texts[path]):
                 places.setdefault(name, []).append((path, first))
                 owners.update({(path, it): (path, first) for it in range(first, last)})
-    named = {}
+    named: dict[tuple[str, int] | None, set[str]] = {}
     for path, lines in texts.items():
         for number, line in without_imports(lines):
             named.setdefault(owners.get((path, number)), set()).update(it for it in WORD.findall(line) if it in places)

@@ -51,6 +51,7 @@ class Promised(typing.NamedTuple):
     clause: contracts.Clause
 
 
+@functools.cache
 def short(path: str) -> str:
     return os.path.relpath(path, ROOT)
 
@@ -309,14 +310,14 @@ class Project:
         """The functions and definitions of this name, with full names in which the words in front stand in order."""
         called, found = list[tuple[str, tuple[str, contracts.Function]]](), list[tuple[str, Entry]]()
         for path, functions in self.functions.items():
-            for it in functions:
+            for it in (it for it in functions if it.name == words[-1]):
                 full = [crate_of(path), *modules_of(path), *([it.owner] if it.owner else []), it.name]
                 if stands_in(words, full):
                     called.append(("::".join(full), (path, it)))
         public = [pair for pair in called if pair[1][1].visibility == "pub "]
         for path, definitions in self.specs.items():
-            for name, one in definitions.items():
-                full = [crate_of(path), *modules_of(path), name]
+            if one := definitions.get(words[-1]):
+                full = [crate_of(path), *modules_of(path), words[-1]]
                 if stands_in(words, full) or words == ["Rattle", full[0], "specs", *full[1:]]:
                     found.append(("::".join(full), Entry(path, one.first, one.name)))
         return [*(public or called), *found]

@@ -9,6 +9,10 @@
 // was wrong where MsgSeqNum (34), ExecID (17) or the ClOrdIDs acknowledged (11) don't rise as they must. `echo` as the
 // ninth word of load: the other end is an echo, and each order that comes back counts as acknowledged and filled.
 //
+// By the environment, for what stands in front of a venue: BENCH_HEARTBEAT is the HeartBtInt (108) of a Logon, and with
+// BENCH_MARKET=Y each member asks behind it for all that changes in its market, and reads that beside its reports.
+// BENCH_SYMBOLS=ABC,XYZ are the symbols that members trade by turns, one each: ABC, if left out.
+//
 // Prints: orders, microseconds of the run, p50 and p99 round trip in nanoseconds, reports.
 #define _GNU_SOURCE
 #include <arpa/inet.h>
@@ -21,15 +25,17 @@
 #include <time.h>
 #include <unistd.h>
 
-enum { MEMBERS = 8, LARGEST = 4096, BYTES = 1 << 18, MESSAGE = 512, MOST = 1 << 24 };
+enum { MEMBERS = 64, SYMBOLS = 8, LARGEST = 4096, BYTES = 1 << 18, MESSAGE = 512, MOST = 1 << 24 };
 
-static int port, members, window, seconds, is_echo;
+static int port, members, window, seconds, is_echo, asks, symbols;
+static char *symbol[SYMBOLS];
 static double rate;
 static pthread_barrier_t start;
 
 typedef struct {
     int member, end;
-    long sent, acked, filled, got, last_exec;  // Orders and reports so far.
+    long sent, acked, filled, got, last_exec;  // Orders and reports so far,
+    long market;                               // and messages of the market, which `got` counts too.
     uint64_t sent_at[LARGEST], first, last;    // When the order of this ClOrdID, modulo LARGEST, was sent.
     uint32_t *trips;                           // Nanoseconds from an order to its acknowledgement.
     char in[BYTES];
@@ -78,8 +84,9 @@ static void send_orders(Member *it, long count) {
     uint64_t at = now();
     for (; count > 0; count--) {
         long name = ++it->sent;
-        snprintf(body, sizeof body, "11=%ld|55=ABC|54=%ld|60=20250102-09:30:00|38=10|40=2|44=50|", name, 1 + name % 2);
-        length += message(out + length, it->member, name + 1, "D", body);
+        snprintf(body, sizeof body, "11=%ld|55=%s|54=%ld|60=20250102-09:30:00|38=10|40=2|44=50|", name,
+                 symbol[it->member % symbols], 1 + name % 2);
+        length += message(out + length, it->member, name + 1 + asks, "D", body);
         it->sent_at[name % LARGEST] = at;
     }
     send_all(it, out, length);
@@ -105,6 +112,10 @@ static void hear(Member *it, const char *from, size_t length) {
     if (number_of(from, length, "\x01" "34=") != it->got + 1) fail("a MsgSeqNum isn't the next", it);
     it->got++;
     if (it->got == 1) return;  // The answer to the Logon.
+    if (asks && (memmem(from, length, "\x01" "35=W\x01", 6) || memmem(from, length, "\x01" "35=X\x01", 6))) {
+        it->market++;
+        return;
+    }
     if (is_echo) {
         acknowledge(it, name);
         it->filled++;
@@ -165,6 +176,12 @@ static void *trade(void *given) {
     snprintf(logon, sizeof logon, "98=0|108=%s|141=Y|", beat ? beat : "0");
     send_all(it, out, message(out, it->member, 1, "A", logon));
     while (it->got == 0) listen_once(it);
+    if (asks) {
+        char wanted[MESSAGE];
+        snprintf(wanted, sizeof wanted, "262=m|263=1|264=0|265=1|267=3|269=0|269=1|269=2|146=1|55=%s|",
+                 symbol[it->member % symbols]);
+        send_all(it, out, message(out, it->member, 2, "V", wanted));
+    }
     pthread_barrier_wait(&start);
     it->first = now();
     uint64_t end = it->first + (uint64_t)seconds * 1000000000;
@@ -202,7 +219,7 @@ static void load(void) {
     for (int i = 0; i < members; i++) {
         memcpy(trips + orders, all[i].trips, (size_t)all[i].acked * sizeof(uint32_t));
         orders += all[i].acked;
-        reports += all[i].got - 1;
+        reports += all[i].got - 1 - all[i].market;
         if (all[i].first < first) first = all[i].first;
         if (all[i].last > last) last = all[i].last;
     }
@@ -253,6 +270,11 @@ int main(int count, char **words) {
         echo();
         return 0;
     }
+    const char *market = getenv("BENCH_MARKET"), *traded = getenv("BENCH_SYMBOLS");
+    asks = market && !strcmp(market, "Y");
+    for (char *it = strtok(strdup(traded ? traded : "ABC"), ","); it && symbols < SYMBOLS; it = strtok(NULL, ","))
+        symbol[symbols++] = it;
+    if (members < 1 || members > MEMBERS || !symbols) return 2;
     window = atoi(words[4]);
     seconds = atoi(words[5]);
     rate = count > 6 ? atof(words[6]) : 0;

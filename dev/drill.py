@@ -7,9 +7,8 @@ import threading
 import time
 from collections.abc import Callable, Iterator
 
-from drill_machines import BRICK, SHARED, Machine
-from drill_gluster import Gluster
-from drill_store import FOLDER, contents
+from drill_machines import SHARED, Machine
+from drill_store import FOLDER, Store, contents
 from drill_venue import PORT, SYMBOL, Unit, alone, first_ready, step_without, watched
 from gikvand.words import sure
 from traders import Member, Rounds, request
@@ -91,30 +90,29 @@ def heard(trader: Member) -> bool:
 
 
 class Drill:
-    """The machines, their volume, and what the journal held after each case."""
+    """The machines, their store, and what the journal held after each case."""
 
-    def __init__(self, left_out: str | None) -> None:
-        self.left_out, self.times = left_out, dict[str, list[float]]()
+    def __init__(self, kind: type[Store], left_out: str | None) -> None:
+        self.kind, self.left_out, self.times = kind, left_out, dict[str, list[float]]()
         self.units: list[Unit] = []
 
     def make(self) -> None:
-        """Boots the machines, and makes the volume and the first journal by hand."""
+        """Boots the machines, and makes the store and the first journal by hand."""
         since = time.monotonic()
-        self.machines = [Machine(number) for number in (1, 2, 3)]
+        self.machines = [Machine(number, self.kind.DISK) for number in (1, 2, 3)]
         for it in self.machines:
             it.boot()
-        self.store = Gluster(self.machines, self.left_out)
+        self.store = self.kind(self.machines, self.left_out)
         self.store.make()
         first = self.machines[0]
         first.do("mkdir", f"{SHARED}/{FOLDER}")
         self.rounds = Rounds(self.store.journal(first), MEMBERS)
         with open(self.store.journal(first, ".symbols"), "w", encoding="ascii") as file:
             file.write(f"{SYMBOL}\n")
-        for it in self.machines:
-            it.do("sync", "-f", BRICK)
+        self.store.sync()
         self.store.await_whole()
         took = time.monotonic() - since
-        print(f"three machines, and a volume with a brick on each of them: made in {took:.0f} s", flush=True)
+        print(f"three machines, and {self.store.IS}: made in {took:.0f} s", flush=True)
 
     def unit(self, machine: Machine, words: list[str]) -> Unit:
         unit = Unit(machine, words, step_without(self.left_out))
@@ -146,7 +144,7 @@ class Drill:
         before = sum(map(len, self.rounds.kept.values()))
         said = case(self, self.machines[number % len(self.machines)])
         kept = sum(map(len, self.rounds.kept.values())) - before
-        return f"{said}; {kept} reports more in the journal, all that were told among them; the bricks are equal"
+        return f"{said}; {kept} reports more in the journal, all that were told among them; {self.store.EQUAL}"
 
     def took(self, what: str, seconds: float) -> str:
         """Notes how long something took."""
@@ -162,6 +160,8 @@ class Drill:
         for it in self.units:
             for at, line in it.lines[-LINES:]:
                 print(f"    {it.machine.name}, {time.monotonic() - at:.1f} s ago: {line}", flush=True)
+        for line in self.store.said():
+            print(f"    {line}", flush=True)
 
     def check(self, machine: Machine, traders: list[Member]) -> None:
         """Checks that all that these members were told is in the journal, as this machine has it."""
@@ -177,7 +177,7 @@ class Drill:
         for other in units:
             if other is not unit:
                 at = sure(unit.ready(since))
-                await_that(f"{other.machine.name} is refused", lambda: other.refused(at) > 1)
+                await_that(f"{other.machine.name} is refused", lambda: other.refused(at) > 1 or other.ready(since))
         serving = [it.machine.name for it in self.units if it.ready(since)]
         if serving != [unit.machine.name]:
             raise Trouble(f"expected one machine to go on came {' and '.join(serving)}")

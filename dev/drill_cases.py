@@ -3,6 +3,8 @@ import contextlib
 import os
 import shutil
 import signal
+import socket
+import struct
 import time
 
 import drill_edge
@@ -15,6 +17,7 @@ from gikvand.words import sure
 from traders import Member
 from venues import Trouble, await_that
 
+A_TCP_INFO, SINCE_DATA = 104, 52  # Bytes of what the system tells of a connection, and where in it the milliseconds since data came are.
 HOLD, HELD, HOLDS = (f"{HOME}/{it}" for it in ("hold", "held", "hold.so"))
 
 
@@ -80,12 +83,10 @@ def stuck(drill: Drill, machine: Machine) -> str:
     since = time.monotonic()
     os.kill(drill.store.client(machine), signal.SIGSTOP)
     ended = unit.await_line("status 137", since) - since
-    new = drill.goes_on(standbys, since)
-    at = sure(new.ready(since))
-    await_that(f"{machine.name} waits for the lock", lambda: unit.refused(at) > 1)
+    new = drill.goes_on([*standbys, unit], since)  # (it may be the same machine, which has mounted anew)
     drill.check(new.machine, traders)
     drill.end(new, drill.traded_on(new))
-    return (drill.took("a client that stands still: the next machine is ready after", at - since) + ", "
+    return (drill.took("a client that stands still: the next machine is ready after", sure(new.ready(since)) - since) + ", "
             + drill.took("the watch has ended the venue and the client after", ended))
 
 
@@ -122,14 +123,23 @@ def parted(drill: Drill, machine: Machine) -> str:
 
 
 def late(traders: list[Member], new: Unit, since: float) -> bool:
-    """Whether one of these members heard something after the next venue was ready."""
-    return max(it.heard_at for it in traders) > new.ready(since)
+    """Whether something came to one of these members after the next venue was ready."""
+    return max(map(came_at, traders)) > sure(new.ready(since))
+
+
+def came_at(trader: Member) -> float:
+    """When something came to a member last, as the system has it: this process may read that late. It may stand still between two lines
+    as well, which must not make it later."""
+    now = time.monotonic()
+    info = trader.ends.getsockopt(socket.IPPROTO_TCP, socket.TCP_INFO, A_TCP_INFO)
+    return now - struct.unpack_from("I", info, SINCE_DATA)[0] / 1000
 
 
 def joined(drill: Drill, machine: Machine) -> str:
     """An idle machine is cut off, without the watch, and joined again. Then its members send one more, in vain."""
     unit, standbys, traders = at_work(drill, machine, alone())
     cease(traders)
+    drill.store.leave_mount(machine)
     since = time.monotonic()
     machine.cut()
     new = drill.goes_on(standbys, since)
@@ -137,7 +147,7 @@ def joined(drill: Drill, machine: Machine) -> str:
     drill.check(new.machine, traders)
     later = drill.traded_on(new, machine)
     machine.join()
-    await_that(f"{machine.name} sees the volume", lambda: drill.store.reaches_all(machine), 0.2)
+    await_that(f"{machine.name} sees the store", lambda: drill.store.reaches_all(machine), 0.2)
     for it in traders:
         send_one_more(it)
     await_that("the venue that was cut off ends", lambda: unit.when("status ", since) or any(map(heard, traders)))
@@ -145,6 +155,7 @@ def joined(drill: Drill, machine: Machine) -> str:
         raise Trouble("the venue that was cut off answers")
     if not unit.when("status 2", since):
         raise Trouble(f"the venue that was cut off says {[line for at, line in unit.lines if at >= since]}")
+    drill.store.see_to_mount(machine)
     drill.end(new, later)
     return drill.took("cut off while idle: the next machine is ready after", sure(new.ready(since)) - since)
 
@@ -166,16 +177,16 @@ def watch_ends(drill: Drill, machine: Machine) -> str:
 
 
 def brick(drill: Drill, machine: Machine) -> str:
-    """Another machine's brick is killed while members trade: the venue goes on."""
+    """What keeps another machine's copy is killed while members trade: the venue goes on."""
     unit, standbys, traders = at_work(drill, machine, drill.words())
     since = time.monotonic()
     for it in traders:
         it.longest, it.heard_at = 0.0, since
-    drill.store.kill_brick(standbys[0].machine)
+    drill.store.kill_server(standbys[0].machine)
     await_answers(traders, ENOUGH)
     silence = max(it.silence() for it in traders)
     cease(traders)
-    drill.store.start_bricks()
+    drill.store.start_servers()
     drill.end(unit, traders)
     return drill.took("a killed brick: members hear nothing for", silence)
 
@@ -185,8 +196,7 @@ def half(drill: Drill, machine: Machine) -> str:
     the one that is read."""
     if not shutil.which("cc"):
         return "isn't tried: it needs cc"
-    second = drill.store.is_read_from()
-    holder, third = (it for it in drill.machines if it is not second)
+    holder, second, third = drill.store.parts()
     drill.serve(holder, [*holding(), *alone()])
     unit = drill.unit(second, drill.words())
     traders = trading(holder, drill.rounds)
@@ -197,8 +207,7 @@ def half(drill: Drill, machine: Machine) -> str:
     await_that("a write is held", lambda: os.path.exists(HELD))
     third.cut()
     os.remove(HOLD)
-    await_that("the write is on one brick more",
-               lambda: drill.store.entries(second) == drill.store.entries(third) + 1)
+    await_that("the write is with one more", lambda: drill.store.is_torn(holder, second, third))
     since = time.monotonic()
     holder.die()
     third.join()
@@ -220,6 +229,7 @@ def edge(drill: Drill, machine: Machine) -> str:
     desks = drill_edge.Desks(machine, drill.machines)
     try:
         desks.log_on()
+        desks.make_room()
         desks.trade()
         desks.leave()
         since = time.monotonic()
@@ -250,8 +260,3 @@ def holding() -> list[str]:
 
 CASES = {"killed": killed, "looked": looked, "cached": cached, "stuck": stuck, "dies": dies, "parted": parted,
          "joined": joined, "watched": watch_ends, "brick": brick, "half": half, "edge": edge}
-
-# What may be left out, the case that has to fail then, and in how many rounds at the most.
-PLANTS = {"strict-locks": ("joined", 1), "quorum": ("parted", 1), "direct-io": ("looked", 1), "step": ("half", 6),
-          "watch": ("watched", 1), "pages": ("cached", 1), "let-go": ("stuck", 1), "numbers": ("edge", 1)}
-BY_CHANCE = ["no-views"]  # What may be left out too, and is seen to do harm in few rounds alone.

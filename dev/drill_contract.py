@@ -16,10 +16,6 @@ GIKVAND = os.path.join(ROOT, "scripts/gikvand")
 LONGEST = 900  # Seconds for all of it.
 A_LOOK = 0.05  # Seconds between two looks for what is asked.
 STAY = "5"
-OF_A_HAND = ("python3", "sh", "venued")  # What runs on a machine for the command.
-
-# What may be left out of the volume's settings, and the property that fails then.
-LACKS = {"strict-locks": "no late writes", "quorum": "no false success", "direct-io": "fresh opens", "no-views": "fresh opens"}
 
 # A machine, by its number, and what asks this process for what happens to one, and waits until that is done.
 MACHINE = """#!/bin/sh
@@ -28,8 +24,10 @@ exec nsenter -t "$(cat {home}/init.$(basename "$0"))" -m -n -p -u -i sh -c "$1"
 """
 HAPPENS = """#!/bin/sh
 asked="{home}/asked.{what}.$(basename "$1")"
+rm -f "$asked.fault"
 : >"$asked"
 while [ -e "$asked" ]; do sleep 0.05; done
+[ ! -e "$asked.fault" ] || {{ cat "$asked.fault"; exit 1; }}
 """
 
 
@@ -47,10 +45,11 @@ def note_first_process(machine: Machine) -> None:
 
 
 def is_left(pid: int) -> bool:
-    """Whether a process has ended that the command began on a machine, and whose parent is gone."""
-    with contextlib.suppress(OSError), open(f"/proc/{pid}/stat", encoding="ascii") as file:
-        name, _, rest = file.read().partition("(")[2].rpartition(")")
-        return name in OF_A_HAND and rest.split()[0] == "Z"
+    """Whether a child of ours has ended that ran on a machine, and that we haven't begun: its parent is gone. It has a number there too.
+    Those that we have begun have one here alone, and are waited for by who began them."""
+    with contextlib.suppress(OSError), open(f"/proc/{pid}/status", encoding="utf-8", errors="replace") as file:
+        told = dict(line.split(":", 1) for line in file)
+        return told["State"].split()[0] == "Z" and len(told["NSpid"].split()) > 1
     return False
 
 
@@ -70,7 +69,10 @@ def happening(drill: Drill) -> Iterator[None]:
                 for it in drill.machines:
                     asked = f"{HOME}/asked.{what}.machine{it.number}"
                     if os.path.exists(asked):
-                        do(it)
+                        try:
+                            do(it)
+                        except Exception as why:  # Else the command would wait for it without a bound.
+                            put(f"{os.path.basename(asked)}.fault", f"{why}")
                         os.remove(asked)
 
     def take_in() -> None:
@@ -101,12 +103,16 @@ def contract(drill: Drill, machine: Machine) -> str:
     words = [word for it in (machine, *others) for word in ("--machine", f"{HOME}/machine{it.number}")]
     words += [word for it in ("cut", "join", "kill", "start") for word in (f"--{it}", f"{HOME}/{it} NAME")]
     with happening(drill):
-        it = subprocess.run([sys.executable, GIKVAND, "store-contract", *words, "--folder", f"{SHARED}/contract", "--stay", STAY],
-                            capture_output=True, text=True, timeout=LONGEST, preexec_fn=die_with_us)
+        try:
+            it = subprocess.run([sys.executable, GIKVAND, "store-contract", *words, "--folder", f"{SHARED}/contract", "--stay", STAY],
+                                capture_output=True, text=True, timeout=LONGEST, preexec_fn=die_with_us)
+        except subprocess.TimeoutExpired as late:
+            raise Trouble(f"store-contract takes more than {LONGEST} seconds; it said {late.stdout!r}") from None
     lines = it.stdout.splitlines()
-    wrong = [line for line in lines if " fail: " in line] + it.stderr.splitlines()
-    if it.returncode or wrong:
-        raise Trouble("; ".join(" ".join(line.split()) for line in wrong))
+    failed = [line for line in lines if " fail: " in line]
+    wrong = [line for line in failed if not line.startswith(drill.store.BY_WATCH)] + it.stderr.splitlines()
+    if it.returncode != bool(failed) or wrong:
+        raise Trouble("; ".join(" ".join(line.split()) for line in wrong) or f"store-contract ended with {it.returncode}, and said {lines}")
     drill.store.await_whole()
     for line in lines:
         print(f"    {line}", flush=True)

@@ -17,13 +17,14 @@ from venues import Trouble, await_that, replay
 sys.path.append(os.path.join(ROOT, "edge/tests"))
 
 from edges import EDGE, settings_of
-from engines import Engine, order
+from engines import Engine, now, order
 
 KEPT, LOST = GATEWAYS - 1, GATEWAYS  # The member whose folder is on the volume, and the one whose folder isn't.
 EDGE_PORT = 9801  # Of C1; that of Ck is k - 1 above it.
 SETTINGS = f"{HOME}/edge.cfg"
 BEFORE = 5000    # Messages of the session of which the drill plays the end: more than any gap by itself.
 ROUNDS, AT_ONCE = 40, 10  # Trades one by one, and orders that nobody waits for.
+ALL = 1000000    # A quantity above all that may rest.
 
 # What the edge's unit asks of systemd: it is started again until it holds its folder, and ends behind a stop in order.
 UNIT = """while :; do
@@ -46,9 +47,10 @@ def folder_of(member: int) -> str:
 
 
 def write_settings() -> None:
-    """Writes the settings of both members, which are the same on all machines."""
+    """Writes the settings of both members, which are the same on all machines. What is free doesn't count: CephFS tells of no free byte
+    without a ceph-mgr, which the drill hasn't."""
     common = {"VenuePort": PORT, "VenueJournal": f"{SHARED}/{FOLDER}/{JOURNAL}", "Symbols": f"{SYMBOL}:0.01",
-              "FileLogPath": "/run/edges/log", "EdgePath": "/run/edges"}
+              "FileLogPath": "/run/edges/log", "EdgePath": "/run/edges", "DiskReserve": 0}
     sessions = [{"TargetCompID": comp_id(it), "Member": f"C{it}", "SocketAcceptPort": EDGE_PORT + it - 1,
                  "EdgePath": folder_of(it)} for it in (KEPT, LOST)]
     with open(SETTINGS, "w", encoding="ascii") as file:
@@ -83,7 +85,8 @@ class EdgeUnit:
         for shell in children(self.process.pid):
             for it in children(shell):
                 os.kill(it, signal.SIGTERM)
-        if status := self.process.wait():
+        await_that(f"the edge of C{self.member} ends", lambda: self.process.poll() is not None)
+        if status := self.process.poll():
             raise Trouble(f"the edge of C{self.member} ended with {status}: {self.lines[-3:]}")
 
     def end(self) -> None:
@@ -146,6 +149,13 @@ class Desks:
             with self.machine.network():
                 engine.log_on()
             engine.settle()
+
+    def make_room(self) -> None:
+        """Takes all that rests: behind some fifty cases the book is full, and no order would rest any more."""
+        kept = self.engines[KEPT]
+        for side in (1, 2):
+            kept.send("D", f"11=room-{side}|21=1|38={ALL}|40=1|54={side}|55={SYMBOL}|60={now()}|")
+            kept.report(_150="4", _11=f"room-{side}")
 
     def trade(self) -> None:
         """One of both buys from the other, again and again, and each is told."""

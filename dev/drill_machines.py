@@ -17,14 +17,12 @@ from venues import Trouble, await_that
 INSIDE = "FAILOVER_DRILL_INSIDE"
 HOME = "/mnt"            # Where all that the drill makes lies: in memory, and seen by its own processes alone.
 BRICK, SHARED = "/srv/brick", "/srv/venue"  # The disk and the volume, in each machine.
-DISK_SIZE = 192 << 20    # Of a file with holes.
 NEW_NETWORK = 0x40000000     # CLONE_NEWNET
 PR_SET_PDEATHSIG = 1
 SHUT_DOWN = 0x8004587D       # EXT4_IOC_SHUTDOWN,
 AT_ONCE = struct.pack("I", 2)  # with what isn't on the disk yet thrown away.
 OWN = ["unshare", "--mount", "--net", "--pid", "--ipc", "--fork", "--kill-child", "--mount-proc"]
-PROGRAMS = {"unshare": "util-linux", "nsenter": "util-linux", "losetup": "mount", "ip": "iproute2",
-            "mkfs.ext4": "e2fsprogs", "glusterd": "glusterfs-server", "gluster": "glusterfs-server"}
+PROGRAMS = {"unshare": "util-linux", "nsenter": "util-linux", "losetup": "mount", "ip": "iproute2", "mkfs.ext4": "e2fsprogs"}
 
 # Whether the system lets one have such machines.
 TRY = f"""set -e
@@ -44,20 +42,19 @@ mount --make-rprivate /
 mount -t tmpfs tmpfs /srv
 mkdir {BRICK} {SHARED}
 mount -o loop "$1/disk" {BRICK}
-mount --bind "$1/lib" /var/lib/glusterd
-mount --bind "$1/log" /var/log/glusterfs
 mount --bind "$1/fstab" /etc/fstab
+hostname "$2"
 mount -t tmpfs tmpfs /run
 ip link set lo up
 echo up
 while read -r; do :; done"""
 
 
-def missing() -> str | None:
-    """Why there can be no drill here, or None."""
+def missing(more: dict[str, str]) -> str | None:
+    """Why there can be no drill here, or None. A store needs more programs, each of a package."""
     if os.geteuid():
         return "it is for root, who may make namespaces and mount"
-    packages = {package for program, package in PROGRAMS.items() if not shutil.which(program)}
+    packages = {package for program, package in {**PROGRAMS, **more}.items() if not shutil.which(program)}
     if packages:
         return f"it needs of Debian: apt-get install {' '.join(sorted(packages))}"
     it = subprocess.run([*OWN, "bash", "-c", TRY], stdout=subprocess.PIPE, stderr=subprocess.STDOUT, text=True)
@@ -73,8 +70,35 @@ def enter() -> int:
     try:
         return it.wait()
     finally:
+        end_clients(it.pid)
         it.kill()
         it.wait()
+
+
+def end_clients(pid: int) -> None:
+    """Kills all of FUSE that this process has begun. Who waits for one of these isn't ended by a signal, nor are its namespaces."""
+    parents = dict(filter(None, map(parent_of, os.listdir("/proc"))))
+    for it in parents:
+        above = it
+        while above in parents and above != pid:
+            above = parents[above]
+        if above == pid and has_fuse(it):
+            kill(it)
+
+
+def parent_of(name: str) -> tuple[int, int] | None:
+    """A process and its parent, or None where it isn't one, or has ended."""
+    with contextlib.suppress(OSError, ValueError), open(f"/proc/{int(name)}/stat", encoding="utf-8", errors="replace") as file:
+        return int(name), int(file.read().rpartition(")")[2].split()[1])
+    return None
+
+
+def has_fuse(pid: int) -> bool:
+    """Whether a process serves a mount by FUSE."""
+    folder = f"/proc/{pid}/fd"
+    with contextlib.suppress(OSError):
+        return any(os.readlink(f"{folder}/{it}") == "/dev/fuse" for it in os.listdir(folder))
+    return False
 
 
 def die_with_us() -> None:
@@ -116,20 +140,20 @@ def kill(pid: int) -> None:
 class Machine:
     """A machine, with a disk that it keeps, and a cable to the switch."""
 
-    def __init__(self, number: int) -> None:
+    def __init__(self, number: int, disk_size: int) -> None:
         self.number, self.name, self.address = number, f"machine {number}", f"10.0.0.{number}"
-        self.cable, self.folder = f"cable{number}", f"{HOME}/{number}"
+        self.host, self.cable, self.folder = f"m{number}", f"cable{number}", f"{HOME}/{number}"
         for it in ("lib", "log"):
             os.makedirs(f"{self.folder}/{it}")
         with open(f"{self.folder}/fstab", "wb"):
             pass
         with open(f"{self.folder}/disk", "wb") as file:
-            file.truncate(DISK_SIZE)
+            file.truncate(disk_size)  # (with holes)
         ran("mkfs.ext4", "-q", "-m", "0", file.name)
 
     def boot(self) -> None:
         pipe = subprocess.PIPE
-        words = [*OWN, "--uts", "bash", "-c", BOOT, "boot", self.folder]
+        words = [*OWN, "--uts", "bash", "-c", BOOT, "boot", self.folder, self.host]
         self.process = subprocess.Popen(words, stdin=pipe, stdout=pipe, stderr=subprocess.DEVNULL)
         if sure(self.process.stdout).readline() != b"up\n":
             raise Trouble(f"{self.name} doesn't boot")
@@ -155,15 +179,9 @@ class Machine:
         """A file of this machine, as it is known here."""
         return f"/proc/{self.init}/root{name}"
 
-    @contextlib.contextmanager
-    def network(self) -> Iterator[None]:
+    def network(self) -> contextlib.AbstractContextManager[None]:
         """Within this, sockets of this thread are of that machine, as its members' tunnels are."""
-        with open(f"/proc/{self.init}/ns/net", "rb") as there, open("/proc/thread-self/ns/net", "rb") as here:
-            enter_network(there.fileno())
-            try:
-                yield
-            finally:
-                enter_network(here.fileno())
+        return network_of(self.init)
 
     def cut(self) -> None:
         """From now on nothing comes to it from the others, nor from it to them."""
@@ -187,6 +205,17 @@ class Machine:
     def await_free_disk(self) -> None:
         """Waits until the disk of a machine that has died isn't in use any more."""
         await_that(f"the disk of {self.name} is free", lambda: not ran("losetup", "-j", f"{self.folder}/disk"))
+
+
+@contextlib.contextmanager
+def network_of(pid: int) -> Iterator[None]:
+    """Within this, sockets of this thread are in the network of that process, and so are programs that it starts."""
+    with open(f"/proc/{pid}/ns/net", "rb") as there, open("/proc/thread-self/ns/net", "rb") as here:
+        enter_network(there.fileno())
+        try:
+            yield
+        finally:
+            enter_network(here.fileno())
 
 
 def enter_network(fd: int) -> None:

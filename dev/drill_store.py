@@ -5,6 +5,15 @@ from collections.abc import Callable
 
 from drill_machines import SHARED, Machine
 from gikvand import journals
+from venues import Trouble, await_that
+
+# What is told where a plant is seen: an order that a member was told of, and that the next venue hasn't; a venue that goes on where it
+# must not; a case that comes no further than there; and members without answers.
+LOST = "lost, or told otherwise|isn't there any more, or is told otherwise"
+LIVES_ON = "says 'status 137': not within "
+NOBODY_SERVES = "one of the other machines serves: not within "
+ANSWERS = "the venue that was cut off answers"
+NO_ANSWERS = "a session has ended by itself|members are answered: not within "
 
 FOLDER, JOURNAL = "day", "venue.journal"
 KEPT = [JOURNAL, f"{JOURNAL}.symbols"]  # What has to be the same wherever it is kept.
@@ -37,6 +46,18 @@ def contents(path: str) -> bytes:
 class Store:
     """A store that all machines have mounted, with all settings but one that may be left out."""
 
+    PROGRAMS: dict[str, str] = {}  # What it needs, each of a package.
+    DISK = 192 << 20               # Bytes of each machine's disk.
+    IS, EQUAL = "", ""             # What it is, and what its copies are at the end, in words.
+    PATIENCE = 30                  # Seconds to wait for what has to come.
+
+    # What may be left out, the case that has to fail then, in how many rounds at the most, and by what text; and what is seen to do harm
+    # by chance.
+    PLANTS: dict[str, tuple[str, int, str]] = {}
+    BY_CHANCE: list[str] = []
+    LACKS: dict[str, str] = {}     # The same of `gikvand store-contract`, and the property that fails, as it is said.
+    BY_WATCH: tuple[str, ...] = ()  # Properties that the store hasn't by itself: the watch makes up for them.
+
     def __init__(self, machines: list[Machine], left_out: str | None) -> None:
         self.machines, self.left_out, self.looks = machines, left_out, 0
 
@@ -47,6 +68,22 @@ class Store:
     def make(self) -> None:
         """Makes the store, and mounts it on all machines."""
         raise NotImplementedError
+
+    def agree(self, do: Callable[[], object], is_done: str = "") -> None:
+        """Does what all of them have to agree on, again where they don't in time: until it is done, or was by a try that came too late."""
+        said: list[str] = []
+
+        def are_at_one() -> bool:
+            try:
+                do()
+                return True
+            except Trouble as why:
+                said.append(str(why))
+                return bool(is_done) and is_done in said[-1]
+        try:
+            await_that("they agree", are_at_one, 1)
+        except Trouble as why:
+            raise Trouble(f"{why}: {said[-1]}") from None
 
     def mount(self, machine: Machine, is_guarded: bool = True) -> None:
         """Mounts it there, or mounts it anew, once it can be had: with or without what keeps the system from a memory of its own."""
@@ -63,6 +100,36 @@ class Store:
     def reaches_all(self, machine: Machine) -> bool:
         """Whether what is written on this machine comes to all copies at once."""
         raise NotImplementedError
+
+    def sync(self) -> None:
+        """Waits until all that is written is on the devices."""
+        raise NotImplementedError
+
+    def kill_server(self, machine: Machine) -> None:
+        """Kills what keeps this machine's copy."""
+        raise NotImplementedError
+
+    def start_servers(self) -> None:
+        """Starts those that aren't there."""
+        raise NotImplementedError
+
+    def leave_mount(self, machine: Machine) -> None:
+        """From now on nobody but the venue sees that this machine was cut off,"""
+
+    def see_to_mount(self, machine: Machine) -> None:
+        """until now."""
+
+    def parts(self) -> tuple[Machine, Machine, Machine]:
+        """Who serves, who gets its last write alone, and who is cut off, where a write comes to one of two others."""
+        raise NotImplementedError
+
+    def is_torn(self, holder: Machine, second: Machine, third: Machine) -> bool:
+        """Whether the last write has come to the second one, and not to the third."""
+        raise NotImplementedError
+
+    def said(self) -> list[str]:
+        """What it has said lately, for who looks why a case failed."""
+        return []
 
     def copy(self, machine: Machine) -> str:
         """The journal as this machine's own copy has it."""

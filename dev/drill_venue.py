@@ -20,9 +20,7 @@ FAULT = "status 1"    # by the venue itself.
 UNIT = f"""step="$1"
 shift
 while :; do
-    cd "{SHARED}/{FOLDER}"
-    "$step" {JOURNAL} && "$@"
-    status=$?
+    if cd "{SHARED}/{FOLDER}"; then "$step" {JOURNAL} && "$@"; status=$?; else status=200; fi
     echo "status $status"
     case $status in 0 | 2) exit ;; esac
     sleep 0.5
@@ -31,6 +29,7 @@ done"""
 
 # What of a program may be left out, the text that is it, and what stands there then.
 LEFT_OUT = {
+    "lock": (STEP, "fcntl.flock(fd, fcntl.LOCK_EX | fcntl.LOCK_NB)", "pass"),
     "pages": (STEP, "end = true_end(fd, start)", "end = end_of(fd, start)"),
     "let-go": (SERVE, 'goes "$1" || let_go', 'goes "$1"')}
 LEFT_OUT["direct-io"] = LEFT_OUT["pages"]  # The option of the mount, and what makes up for it.
@@ -111,7 +110,8 @@ class Unit:
         with open(self.machine.path(f"{SHARED}/{FOLDER}/{JOURNAL}.stop"), "wb"):
             pass
         self.await_line("venued: stopped, ", since)
-        if status := self.process.wait():
+        await_that(f"the unit on {self.machine.name} ends", lambda: self.process.poll() is not None)
+        if status := self.process.poll():
             raise Trouble(f"the unit of a venue that was stopped ended with {status}")
 
 

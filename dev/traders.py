@@ -3,10 +3,14 @@ import os
 import random
 import re
 import socket
+import struct
 import threading
 import time
+from collections.abc import Callable
+from typing import Any
 
 from gikvand import journals
+from gikvand.words import sure
 from venues import HOST, PATIENCE, TIME, Client, Trouble, Venue, check_snapshots, market_order, message, order, parted
 from venues import replay, value
 
@@ -17,7 +21,7 @@ PLACE = re.compile(r"\|17=(\d+)\|")
 ANSWERS = re.compile(rb"\x01150=[058]\x01|\x0135=9\x01")  # Of all but cancels.
 
 
-def request(name):
+def request(name: int) -> tuple[str, str]:
     """Type and body of a member's request of this ClOrdID. Of eight in a row each has another form; the last of each
     sixteen is a market order."""
     side, quantity, price = 1 + name % 2, 1 + name % 7, 49 + name % 3
@@ -31,13 +35,13 @@ def request(name):
     return forms.get(name % 8, ("D", order(name, side, quantity, 50)))
 
 
-def is_answer(report):
+def is_answer(report: str) -> bool:
     """Whether a report answers a request, and isn't one of a fill or of what is left of an order."""
     kind = value(report, "150")
     return kind in ("0", "5", "8") or kind == "4" and value(report, "41") is not None or report.startswith("35=9|")
 
 
-def narrow_client(port, member):
+def narrow_client(port: int, member: int) -> Client:
     """A client with hardly any room for what comes, which is logged on."""
     client = Client(port, member)
     client.socket.close()
@@ -48,7 +52,13 @@ def narrow_client(port, member):
     return client.log_on()
 
 
-def sip(client, pause, taken):
+def vanish(client: Client) -> None:
+    """Resets the connection, so that nothing more is sent or read."""
+    client.socket.setsockopt(socket.SOL_SOCKET, socket.SO_LINGER, struct.pack("ii", 1, 0))
+    client.close()
+
+
+def sip(client: Client, pause: float, taken: list[int]) -> None:
     """Takes little of what comes, with pauses of so many seconds, until nothing does: notes how many bytes."""
     try:
         while piece := client.socket.recv(A_SIP):
@@ -59,9 +69,10 @@ def sip(client, pause, taken):
 
 
 class Member:
-    """A member that trades in one session until the venue is gone. It rests for up to `pause` seconds between bursts."""
+    """A member that trades in one session until the venue is gone. It rests for up to `pause` seconds between bursts. Its
+    ends are a socket, or what sends and receives as one."""
 
-    def __init__(self, ends, member, first, pause=0.06):
+    def __init__(self, ends: Any, member: int, first: int, pause: float = 0.06) -> None:
         self.ends, self.member, self.first, self.name, self.pause = ends, member, first, first, pause
         self.got, self.number = bytearray(), 1
         self.heard_at, self.longest = time.monotonic(), 0.0
@@ -70,7 +81,7 @@ class Member:
         for thread in self.threads:
             thread.start()
 
-    def read(self):
+    def read(self) -> None:
         try:
             while piece := self.ends.recv(65536):
                 self.got.extend(piece)
@@ -79,7 +90,7 @@ class Member:
             pass  # It was reset, as the venue was killed.
         self.has_ended = True
 
-    def write(self):
+    def write(self) -> None:
         try:
             self.ends.sendall(message(self.member, 1, "A", "98=0|108=0|141=Y|"))
             while not (self.has_ended or self.has_ceased):
@@ -91,15 +102,15 @@ class Member:
         except OSError:
             pass
 
-    def answered(self):
+    def answered(self) -> int:
         """How many of its requests were answered, at least."""
         return len(ANSWERS.findall(bytes(self.got)))
 
-    def silence(self):
+    def silence(self) -> float:
         """The longest time for which nothing came, in seconds, since `longest` was set to 0."""
         return max(self.longest, time.monotonic() - self.heard_at)
 
-    def cease(self):
+    def cease(self) -> None:
         """Sends no more, and waits until the last request is answered."""
         self.has_ceased = True
         self.threads[1].join(PATIENCE)
@@ -109,7 +120,7 @@ class Member:
                 raise Trouble(f"C{self.member} has no answer to request {self.name - 1}")
             time.sleep(0.005)
 
-    def reports(self):
+    def reports(self) -> list[str]:
         """Waits for the end: all reports that came, from 35 on, without 49, 56 and 34, which only a session has."""
         for thread in self.threads:
             thread.join(PATIENCE)
@@ -123,7 +134,7 @@ class Member:
         return [re.sub(r"^.*?\|(35=.\|)49=.*?\|(52=.*?\|)", r"\1\2", it)[: -len("10=000|")] for it in told[1:]]
 
 
-def await_round(traders):
+def await_round(traders: list[Member]) -> None:
     """Waits until the members were answered as often as a round asks."""
     end = time.monotonic() + PATIENCE
     while (answered := sum(it.answered() for it in traders)) < A_ROUND:
@@ -132,7 +143,7 @@ def await_round(traders):
         time.sleep(0.02)
 
 
-def check_kept(who, before, kept):
+def check_kept(who: str, before: list[str], kept: list[str]) -> None:
     """Checks that what was kept before still is, and that the places of reports rise."""
     if kept[: len(before)] != before:
         raise Trouble(f"what was kept for {who} before isn't there any more, or is told otherwise")
@@ -141,7 +152,7 @@ def check_kept(who, before, kept):
         raise Trouble(f"the places of {who}'s reports don't rise")
 
 
-def check_told(trader, told, kept):
+def check_told(trader: Member, told: list[str], kept: list[str]) -> None:
     """Checks what is kept of a session: all that this member was told stands in it, and it answers what the member sent."""
     who = f"C{trader.member}"
     if told and told[0] not in kept:
@@ -150,25 +161,28 @@ def check_told(trader, told, kept):
     for place, report in enumerate(told):
         if kept[at + place: at + place + 1] != [report]:
             raise Trouble(f"lost, or told otherwise, or out of order to {who}: {report}")
-    answered = [int(value(it, "11")) for it in kept if is_answer(it)]
+    answered = [int(sure(value(it, "11"))) for it in kept if is_answer(it)]
     if answered != list(range(trader.first, trader.first + len(answered))):
         raise Trouble(f"{who} sent requests from {trader.first} on, and {answered[:5]}..{answered[-5:]} are answered")
     if trader.first + len(answered) > trader.name:
         raise Trouble(f"{who} was answered more than it sent")
 
 
+Trade = Callable[["Rounds"], list[Member]]  # Lets members trade in a round, until its end.
+
+
 class Rounds:
     """Rounds on one journal of version 3, and what it held after each."""
 
-    def __init__(self, journal, members, gateways=None):
+    def __init__(self, journal: str, members: list[int], gateways: int | None = None) -> None:
         self.journal, self.members, self.gateways = journal, members, gateways or len(members)
         self.names = {member: 1 for member in members}
-        self.kept = {member: [] for member in members}
+        self.kept: dict[int, list[str]] = {member: [] for member in members}
         self.counts, self.seen, self.sent, self.starts = (0, 0), 0, 0, 0
         with open(journal, "wb") as file:
             file.write(journals.empty(journals.WITH_SNAPSHOTS))
 
-    def round(self, trade):
+    def round(self, trade: Trade) -> str:
         """Lets the members trade, and checks what is kept behind the end of the venue. Says it in words."""
         traders = trade(self)
         told = {it.member: it.reports() for it in traders}
@@ -183,7 +197,7 @@ class Rounds:
         return (f"{sent} requests sent, {seen} reports seen; {total} kept, all {self.seen} seen so far among them; "
                 f"{self.starts - 1} snapshots")
 
-    def check(self, trader, told):
+    def check(self, trader: Member, told: list[str]) -> None:
         """Checks what is kept for a member against what was kept before, was told and was sent."""
         who, before = f"C{trader.member}", self.kept[trader.member]
         kept, self.counts = replay(self.journal, who)
@@ -191,7 +205,7 @@ class Rounds:
         check_kept(who, before, kept)
         check_told(trader, told, kept[len(before):])
 
-    def check_snapshots(self):
+    def check_snapshots(self) -> None:
         """Checks that each start but the first wrote a snapshot, that all are true, and that the book from the newest one
         on is that of the entries alone."""
         with open(self.journal, "rb") as file:
@@ -203,18 +217,18 @@ class Rounds:
             raise Trouble(f"expected true snapshots came {came}")
         alone = f"{self.journal}.alone"
         write_entries(alone, journal, len(journal.entries))
-        if (came := replay(self.journal, "book")) != (wanted := replay(alone, "book")):
-            raise Trouble(f"expected, from the newest snapshot on, {wanted} came {came}")
+        if (book := replay(self.journal, "book")) != (wanted := replay(alone, "book")):
+            raise Trouble(f"expected, from the newest snapshot on, {wanted} came {book}")
 
 
-def write_entries(name, journal, count):
+def write_entries(name: str, journal: journals.Journal, count: int) -> None:
     """Makes a journal of the first entries of this one, so many, without snapshots."""
     blocks = journals.in_blocks(journal.version, journal.entries[:count], journals.MOST_IN_A_BLOCK)
     with open(name, "wb") as file:
         file.write(journals.header(journal.version, journal.cut) + blocks + journals.CLOSED)
 
 
-def started_again(rounds, port):
+def started_again(rounds: Rounds, port: int) -> Venue:
     """The venue, ready at the same ports as before, with the counts of its journal."""
     venue = Venue(port, rounds.journal, rounds.gateways)
     if (counts := venue.ready()) != rounds.counts:

@@ -1,17 +1,20 @@
 """The crates of the repository, and how the checker is told of one. Not a script: the scripts import it."""
 import os
 import subprocess
+from collections.abc import Iterator
 
 ROOT = os.path.dirname(os.path.dirname(os.path.abspath(__file__)))
 BYTES = 3_000_000_000  # What a process that proves a crate may take of memory.
 
+Crates = dict[str, list[str]]  # Each with what it stands on.
 
-def kit():
+
+def kit() -> str:
     """The folder of the toolchain."""
     return os.path.dirname(subprocess.run(["rt", "doc"], stdout=subprocess.PIPE, text=True, check=True).stdout.strip())
 
 
-def room():
+def room() -> int:
     """How many processes that prove a crate there is memory for."""
     free = os.sysconf("SC_AVPHYS_PAGES") * os.sysconf("SC_PAGE_SIZE")
     try:
@@ -22,7 +25,7 @@ def room():
     return max(1, free // BYTES)
 
 
-def lines():
+def lines() -> Iterator[tuple[str, list[str], list[str]]]:
     """The lines of crates.txt: a crate's name, what else is said of it, and what it stands on."""
     with open(f"{ROOT}/crates.txt", encoding="utf-8") as file:
         for line in file:
@@ -32,17 +35,17 @@ def lines():
                 yield name, said, names.split()
 
 
-def listed():
+def listed() -> Crates:
     """The crates in the order of crates.txt, each with what it stands on: names of crates, and of the kit's libraries."""
     return {name: names for name, _, names in lines()}
 
 
-def for_c():
+def for_c() -> list[str]:
     """The crates that are made into libraries for C."""
     return [name for name, said, _ in lines() if "staticlib" in said]
 
 
-def below(crate, crates):
+def below(crate: str, crates: Crates) -> list[str]:
     """The crates that one stands on, directly or not, lowest first."""
     found = []
     for name in crates[crate]:
@@ -51,12 +54,12 @@ def below(crate, crates):
     return found
 
 
-def library(crate):
+def library(crate: str) -> str:
     """Where a crate's library is made."""
     return f"{ROOT}/crates/{crate}/out/rlib/{crate}.rlib"
 
 
-def words(crate, crates, toolchain, jobs=1):
+def words(crate: str, crates: Crates, toolchain: str, jobs: int = 1) -> list[str]:
     """What a check of a crate by so many processes is told, in the crate's folder or in a copy of it."""
     rlibs = f"{toolchain}/rlibs"
     root = "src/main.rt" if os.path.isfile(f"{ROOT}/crates/{crate}/src/main.rt") else "src/lib.rt"

@@ -5,7 +5,7 @@ from chromium import Json, Page
 from gikvand import journals
 from gikvand.fix import fields_of
 from gikvand.journals import Entry
-from gikvand.rules import read_order
+from oracle.order_rules import read_order
 from made_journals import SYMBOLS, contents
 from venues import replay
 

@@ -2,14 +2,19 @@
 had here. Not a test."""
 import functools
 import os
+import shutil
 import subprocess
 import sys
+from collections.abc import Iterable
+from typing import AnyStr
 
 import with_scripts  # (in front of what stands there, and of what an older Python can't read)
 
 ROOT = os.path.dirname(os.path.dirname(os.path.abspath(__file__)))
 EDGE = os.path.abspath(os.environ.get("GIKVAND_EDGE", os.path.join(ROOT, "edge/out/gikvand-edge")))
 LONG = 300  # Seconds for a program.
+# What Python has compiled goes along, so that no copy compiles it anew; a file of that which is just being written doesn't.
+NOT_COPIED = shutil.ignore_patterns("out", "out-*", "*.pyc.*")
 
 
 class Check:
@@ -50,9 +55,45 @@ def text_of(name: str) -> str:
         return file.read()
 
 
-def contents(path: str) -> bytes:
+def contents(path: str | bytes) -> bytes:
     with open(path, "rb") as file:
         return file.read()
+
+
+def put(path: AnyStr, data: bytes, mode: int | None = None) -> AnyStr:
+    """Makes a file of these bytes, with this mode if one is given."""
+    with open(path, "wb") as file:
+        file.write(data)
+    if mode is not None:
+        os.chmod(path, mode)
+    return path
+
+
+def put_text(path: str, text: str, mode: int | None = None) -> str:
+    """Makes a file of this text, and the folders that it stands in: its path from the root."""
+    os.makedirs(os.path.dirname(os.path.abspath(path)), exist_ok=True)
+    return os.path.abspath(put(path, text.encode(), mode))
+
+
+def with_another(text: str, old: str, new: str, where: str) -> str:
+    """A text with another part in the place of one that stands there once."""
+    if text.count(old) != 1:
+        raise ValueError(f"{old!r} stands {text.count(old)} times in {where}")
+    return text.replace(old, new)
+
+
+def change(path: str, old: str, new: str) -> None:
+    """Puts another text in the place of one that stands in a file once."""
+    put(path, with_another(contents(path).decode(), old, new, path).encode())
+
+
+def copy_there(root: str, names: Iterable[str], folder: str) -> None:
+    """Copies these files and folders of the project into a folder, without what was built."""
+    for name in names:
+        if os.path.isdir(path := os.path.join(root, name)):
+            shutil.copytree(path, os.path.join(folder, name), ignore=NOT_COPIED)
+        else:
+            shutil.copy(path, folder)
 
 
 def is_edge_built() -> bool:

@@ -19,7 +19,7 @@ from _pytest.terminal import TerminalReporter
 
 ROOT = os.path.dirname(os.path.dirname(os.path.abspath(__file__)))
 TOOLS = os.path.abspath(os.environ.get("TOOLS", os.path.join(ROOT, "tools")))
-OWN = ("VENUED", "VENUE_REPLAY", "VENUE_EVENTS", "GIKVAND_EDGE", "PLAY", "CHECK", "CI_RUN", "LINT")
+OWN = ("VENUED", "VENUE_REPLAY", "VENUE_EVENTS", "GIKVAND_EDGE", "PLAY", "CHECK", "CI_RUN", "LINT", "MEASURES")
 os.environ.update({it: os.path.abspath(os.environ[it]) for it in OWN if it in os.environ})
 sys.path[:0] = [TOOLS, *(os.path.join(ROOT, it) for it in ("tests", "dev", "scripts"))]
 pytest.register_assert_rewrite("board_page", "checks", "installed", "made_journals", "running_tools")

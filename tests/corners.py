@@ -1,12 +1,12 @@
 """Sessions of C1 that go to the corners of the rules of docs/PROFILE.md: what just fits, and what just doesn't. Not a test:
-tests import it. What the venue has to answer stands in rules.py and book_rules.py; these are the bytes alone."""
+tests import it. What the venue has to answer stands in tests/oracle; these are the bytes alone."""
 from collections.abc import Iterator
-from typing import NamedTuple
+from typing import Any, NamedTuple
 
-import book_rules
 from gikvand import journals
+from gikvand.fix import sealed
 from gikvand.journals import Entry
-from gikvand.rules import sealed
+from oracle import book_rules
 from venues import TIME, market_order, message, order
 
 SYMBOLS = ("ABC", "XYZ")
@@ -48,7 +48,7 @@ def data_of(journal: str) -> bytes | None:
     return journals.header(3) + journals.in_blocks(3, entries, journals.MOST_IN_A_BLOCK) + journals.CLOSED
 
 
-def book_of(journal: str, rules=book_rules) -> book_rules.Book:
+def book_of(journal: str, rules: Any = book_rules) -> book_rules.Book:
     """The book behind such a journal, by these rules."""
     book = rules.Book(SYMBOLS, journals.MOST_ENTRIES if journal == OLD else 0)
     if journal == CROWDED:

@@ -1,15 +1,17 @@
 #!/usr/bin/env python3
-"""A store, mounted by FUSE at a folder, that takes what it is asked and answers nothing behind its first word. Not a test:
-tests/package/test_standby.py runs it. The file FOLDER.asked has what was asked.
+"""A store, mounted by FUSE at a folder, that takes what it is asked and answers nothing behind its first word, or this error alone. Not a
+test: tests/package/test_standby.py and test_fence.py run it. The file FOLDER.asked has what was asked.
 
-    deaf_store.py FOLDER
+    deaf_store.py FOLDER [ERROR]
 """
 import ctypes
+import errno
 import os
 import struct
 import sys
 
-INIT = 26             # The kind of the first word.
+INIT = 26             # The kind of the first word,
+UNANSWERED = (2, 42)  # and those of words that want no answer.
 HEAD, ANSWER = struct.Struct("=IIQQIIIi"), struct.Struct("=IiQ")
 SAID = struct.Struct("=IIIIHHIIHH32x")  # Version, what it can, and how much it takes.
 
@@ -28,6 +30,8 @@ def main() -> None:
             if kind == INIT:
                 said = SAID.pack(7, 31, 0, 0, 0, 0, 4096, 1, 0, 0)
                 os.write(store, ANSWER.pack(ANSWER.size + len(said), 0, number) + said)
+            elif len(sys.argv) > 2 and kind not in UNANSWERED:
+                os.write(store, ANSWER.pack(ANSWER.size, -getattr(errno, sys.argv[2]), number))
 
 
 if __name__ == "__main__":

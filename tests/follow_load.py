@@ -16,6 +16,7 @@ VENUED and VENUE_REPLAY.
 import math
 import os
 import signal
+import socket
 import sys
 import threading
 import time
@@ -56,7 +57,7 @@ SHORT, LONG = Load(1000, 4, 2, 100, math.inf), Load(3000, 60, 10, 1000, 0.5)
 class Paced(Member):
     """A member that sends so many orders a second, in even bursts."""
 
-    def __init__(self, ends, member: int, first: int, pace: float) -> None:
+    def __init__(self, ends: socket.socket, member: int, first: int, pace: float) -> None:
         self.pace = pace
         super().__init__(ends, member, first)
 

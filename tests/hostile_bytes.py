@@ -12,7 +12,7 @@ where one is reached by none of them the test fails. `cuts`: the bytes of the fi
 are answered as in one. `replaced_bytes`: each of them is replaced by 00 and by other values. `mutated_sessions`: sessions
 of up to a hundred messages, right ones and wrong ones, many on one journal, so that later ones find a book. A tenth of the
 messages are market orders, or were before they were changed; the journals are of all versions by turns, and on those of
-version 1 the venue refuses these. tools/gikvand/rules.py says which bytes may come out: the venue's own answers in their
+version 1 the venue refuses these. tests/oracle says which bytes may come out: the venue's own answers in their
 order, the reports in theirs, numbered together, nothing behind a Logout; where a Logout ended the session, reports that were due may be missing
 at the end. Behind every journal venue-replay has to print each report that the rules know of, and the journal has to have
 the version that it had. That all this tells a wrong answer and a wrong rule is shown by tests/known_bad.py.
@@ -25,6 +25,7 @@ import argparse
 import collections
 import concurrent.futures
 import fcntl
+import functools
 import itertools
 import os
 import random
@@ -35,17 +36,22 @@ import sys
 import tempfile
 import termios
 import time
+from collections.abc import Callable
 
 ROOT = os.path.dirname(os.path.dirname(os.path.abspath(__file__)))
 sys.path.insert(0, os.path.join(ROOT, "dev"))
 
 import with_scripts  # (in front of what stands there, and of what an older Python can't read)
 import corners
-from book_rules import Book
+from checks import put
 from corners import SYMBOLS, Corner, all_corners
 from gikvand import journals
-from gikvand.rules import Judged, Session, asks_for_market, sealed
-from replay_rules import line_of
+from gikvand.fix import sealed
+from gikvand.words import positive, sure
+from oracle.book_rules import Book
+from oracle.order_rules import asks_for_market
+from oracle.replay_rules import line_of
+from oracle.session_rules import Judged, Session
 from venues import PATIENCE, REPLAY, TIME, VENUED, Trouble, message, need_programs, order, printed
 
 FIRST = message(1, 1, "A", "98=0|108=0|141=Y|") + message(1, 2, "D", order(1, 1, 100, 50))
@@ -81,20 +87,23 @@ TAGS = ["1", "7", "8", "9", "10", "11", "21", "34", "35", "38", "40", "41", "43"
 SIZES = [5, 6, 99, 100, 101, 295, 296, 297, 298, 299, 300, 999, 1000]  # Of a body, round the bounds.
 NO_TAGS = ["100000", "0", "01", "011", "x", "", "-1", "1 "]
 
+Fields = list[tuple[str, str]]  # Each a tag and a value.
+Case = Callable[[str], str | None]  # What is run on a journal: how it differs from the rules, or None.
 
-def coded(fields):
+
+def coded(fields: Fields) -> bytes:
     """The frame round these fields, each a tag and a value."""
     return sealed("".join(f"{tag}={value}\x01" for tag, value in fields).encode("latin-1"))
 
 
-def check_end(process, out, err, judged):
+def check_end(process: subprocess.Popen, out: bytes, err: bytes, judged: Judged) -> str | None:
     """The difference of a run from the rules, or None."""
     if (process.returncode, err) != (0, b""):
         return f"expected status 0 came status {process.returncode} {err.decode('latin-1')!r}"
     return judged.difference(out)
 
 
-def ran(journal, data, judged):
+def ran(journal: str, data: bytes, judged: Judged) -> str | None:
     """Plays a session to its end: how it differs from the rules, or None."""
     process = subprocess.Popen([VENUED, "-", journal, "1", *SYMBOLS], stdin=subprocess.PIPE, stdout=subprocess.PIPE,
                                stderr=subprocess.PIPE)
@@ -107,14 +116,14 @@ def ran(journal, data, judged):
     return check_end(process, out, err, judged)
 
 
-def in_pieces(journal, pieces, judged):
+def in_pieces(journal: str, pieces: tuple[bytes, ...], judged: Judged) -> str | None:
     """The same, where each piece is sent once the one before was read."""
     process = subprocess.Popen([VENUED, "-", journal, "1", *SYMBOLS], stdin=subprocess.PIPE, stdout=subprocess.PIPE,
                                stderr=subprocess.PIPE, bufsize=0)
-    end = time.monotonic() + PATIENCE
+    end, given = time.monotonic() + PATIENCE, sure(process.stdin)
     for piece in pieces:
-        process.stdin.write(piece)
-        while struct.unpack("i", fcntl.ioctl(process.stdin, termios.FIONREAD, b"\0" * 4))[0] and process.poll() is None:
+        given.write(piece)
+        while struct.unpack("i", fcntl.ioctl(given, termios.FIONREAD, b"\0" * 4))[0] and process.poll() is None:
             if time.monotonic() > end:
                 process.kill()
             time.sleep(0.0002)
@@ -122,7 +131,7 @@ def in_pieces(journal, pieces, judged):
     return check_end(process, out, err, judged)
 
 
-def tried(cases, together):
+def tried(cases: list[tuple[str, Case]], together: int) -> tuple[int, list[str]]:
     """Runs these, each a name and what runs it on a journal, so many at a time: how many ran, and what differed."""
     with tempfile.TemporaryDirectory(prefix="hostile-bytes-") as folder:
         with concurrent.futures.ThreadPoolExecutor(together) as pool:
@@ -130,7 +139,7 @@ def tried(cases, together):
             return len(runs), [f"{name}: {why}" for name, run in runs if (why := run.result())]
 
 
-def shown_in(judged, is_old):
+def shown_in(judged: Judged, is_old: bool) -> list[str]:
     """Which rules the answers and reports of a session show."""
     ends = [f"|{printed(body)}" for _, _, body, _ in judged.session.answers[-1:]]
     return [name for text in judged.lines() + ends for name, form in SHOWN.items()
@@ -141,8 +150,7 @@ def corner(it: Corner, journal: str) -> str | None:
     """Plays a session that goes to a corner of the rules: how it differs, or None."""
     data, book = corners.data_of(it.journal), corners.book_of(it.journal)
     if data is not None:
-        with open(journal, "wb") as file:
-            file.write(data)
+        put(journal, data)
     judged = Judged(it.data, book)
     if why := ran(journal, it.data, judged):
         return f"{why}; its bytes: {it.data.hex()}"
@@ -152,28 +160,28 @@ def corner(it: Corner, journal: str) -> str | None:
     return None
 
 
-def rules_corners(together):
+def rules_corners(together: int) -> tuple[int, list[str]]:
     """What just fits, and what just doesn't. All rules have to be met."""
     chosen = all_corners()
     met = {name for it in chosen
            for name in shown_in(Judged(it.data, corners.book_of(it.journal)), it.journal == corners.OLD)}
-    count, faults = tried([(it.name, lambda journal, it=it: corner(it, journal)) for it in chosen], together)
+    count, faults = tried([(it.name, functools.partial(corner, it)) for it in chosen], together)
     return count, faults + [f"no session met {it}" for it in SHOWN if it not in met]
 
 
-def cuts(together):
+def cuts(together: int) -> tuple[int, list[str]]:
     """Each cut of the first order's bytes into two pieces."""
 
-    def case(at):
+    def case(at: int) -> Case:
         return lambda journal: in_pieces(journal, (FIRST[:at], FIRST[at:]), Judged(FIRST, Book(SYMBOLS)))
 
     return tried([(f"cut behind byte {at}", case(at)) for at in range(1, len(FIRST))], together)
 
 
-def replaced_bytes(together):
+def replaced_bytes(together: int) -> tuple[int, list[str]]:
     """Each byte of the first order replaced by others."""
 
-    def case(data):
+    def case(data: bytes) -> Case:
         return lambda journal: ran(journal, data, Judged(data, Book(SYMBOLS)))
 
     changed = [(at, byte, FIRST[:at] + bytes([byte]) + FIRST[at + 1:]) for at in range(len(FIRST)) for byte in OTHERS
@@ -181,7 +189,7 @@ def replaced_bytes(together):
     return tried([(f"byte {at} replaced by {byte:02x}", case(data)) for at, byte, data in changed], together)
 
 
-def padded(fields, size):
+def padded(fields: Fields, size: int) -> Fields:
     """These fields, with a Text behind them that makes the body so long, where that can be."""
     room = size - sum(len(tag) + len(value) + 2 for tag, value in fields) - 4
     return fields + [("58", "x" * room)] * (room > 0)
@@ -190,13 +198,13 @@ def padded(fields, size):
 class Writer:
     """The bytes of sessions, chosen by chance."""
 
-    def __init__(self, chance):
+    def __init__(self, chance: random.Random) -> None:
         self.chance, self.name = chance, 0
 
-    def header(self, kind, number):
+    def header(self, kind: str, number: int) -> Fields:
         return [("35", kind), ("49", "C1"), ("56", "VENUE"), ("34", str(number)), ("52", f"20250102-09:{number % 60:02}:00")]
 
-    def body(self, kind):
+    def body(self, kind: str) -> Fields:
         """A right body of an order message."""
         chance = self.chance
         self.name += chance.choice((1, 1, 1, 1, 2, 0, -1))
@@ -211,7 +219,7 @@ class Writer:
             fields += [("59", chance.choice("0034"))] * chance.choice((0, 0, 1))
         return [(tag, str(value)) for tag, value in fields]
 
-    def changed(self, fields, tags=TAGS):
+    def changed(self, fields: Fields, tags: list[str] = TAGS) -> Fields:
         """These fields with one to three changes."""
         chance, fields = self.chance, list(fields)
         for _ in range(chance.choice((1, 1, 1, 2, 3))):
@@ -233,7 +241,7 @@ class Writer:
                 fields[at] = (tag, chance.choice(VALUES))
         return fields
 
-    def right(self, number):
+    def right(self, number: int) -> bytes:
         """A message that a session takes: an order message, or one of the session's own."""
         kind = self.chance.choice("DDDDDDDDFFGGG013")
         if kind in "DFG":
@@ -245,14 +253,14 @@ class Writer:
             body = [text] if kind == "1" else [("58", "x")] * self.chance.randint(0, 2)
         return coded(self.header(kind, number) + body)
 
-    def faulty(self, number):
+    def faulty(self, number: int) -> bytes:
         """An order message whose body was changed, in a right frame."""
         kind = self.chance.choice("DDFG")
         if self.chance.random() < 0.05:
             return coded(padded(self.header(kind, number) + self.body(kind), self.chance.choice((295, 296, 297))))
         return coded(self.header(kind, number) + self.changed(self.body(kind)))
 
-    def misheaded(self, number):
+    def misheaded(self, number: int) -> Fields:
         """The header's fields with another number, another party or another time."""
         at, value = self.chance.choice((
             (3, number + 1), (3, number - 1), (3, 2 * number + 1), (3, f"0{number}"), (3, 10 ** 9 + number), (1, "C2"),
@@ -262,7 +270,7 @@ class Writer:
         fields[at] = (fields[at][0], str(value))
         return fields
 
-    def resealed(self, data):
+    def resealed(self, data: bytes) -> bytes:
         """These bytes with the length and the sum that they would have to have, where they look like a frame."""
         parts = data.split(b"\x01")
         if self.chance.random() < 0.5 and len(parts) > 4:
@@ -271,7 +279,7 @@ class Writer:
         end = data.rfind(b"10=")
         return data if end < 0 else data[:end] + b"10=%03d\x01" % (sum(data[:end]) % 256)
 
-    def spoiled(self, data):
+    def spoiled(self, data: bytes) -> bytes:
         """These bytes with some of them replaced, left out, repeated or added."""
         chance, data = self.chance, bytearray(data)
         for _ in range(chance.choice((1, 1, 1, 2, 4))):
@@ -282,7 +290,7 @@ class Writer:
             data[at: at + (0 if chance.random() < 0.2 else size)] = new
         return self.resealed(bytes(data)) if chance.random() < 0.6 else bytes(data)
 
-    def hostile(self, number):
+    def hostile(self, number: int) -> bytes:
         """Bytes that most likely end the session."""
         chance = self.chance
         kind = chance.choice("AAD01135FG2JZ")
@@ -309,7 +317,7 @@ class Writer:
             return coded(whole)[:-4] + b"%03d\x01" % chance.randrange(256)
         return self.spoiled(coded(whole))
 
-    def session(self):
+    def session(self) -> tuple[bytes, int]:
         """A whole session's bytes, and how many messages they are."""
         chance, told, data, rest = self.chance, Session(), b"", b""
         for count in itertools.count(1):
@@ -329,21 +337,20 @@ class Writer:
         return data + chance.choice((b"", coded(self.header("5", told.accepted + 1))) if not rest else (b"", piece)), count
 
 
-def kept(journal, what="C1"):
+def kept(journal: str, what: str = "C1") -> list[str]:
     """What venue-replay prints of the book, or of a member. Where it fails, that."""
     it = subprocess.run([REPLAY, journal, what, *SYMBOLS], capture_output=True, timeout=PATIENCE)
     failed = [f"status {it.returncode}"] if it.returncode or it.stderr else []
     return (it.stdout + it.stderr).decode("latin-1").splitlines() + failed
 
 
-def begun(journal, version):
+def begun(journal: str, version: int) -> None:
     """A journal of this version for sessions to come. The venue makes one by itself, of the version that it makes."""
     if version != journals.MADE:
-        with open(journal, "wb") as file:
-            file.write(journals.empty(version))
+        put(journal, journals.empty(version))
 
 
-def kept_difference(what, lines, came):
+def kept_difference(what: str, lines: list[str], came: list[str]) -> str | None:
     """How these lines of venue-replay differ from those that are due, or None."""
     for at, (one, two) in enumerate(itertools.zip_longest(lines, came), 1):
         if one != two:
@@ -351,7 +358,7 @@ def kept_difference(what, lines, came):
     return None
 
 
-def check_kept(journal, version, lines):
+def check_kept(journal: str, version: int, lines: list[str]) -> str | None:
     """How a journal differs from these lines of venue-replay, or by its version from what it was, or None."""
     if why := kept_difference("C1", lines, kept(journal)):
         return why
@@ -362,11 +369,12 @@ def check_kept(journal, version, lines):
     return None
 
 
-def batch(number, seed, journal):
+def batch(number: int, seed: str, journal: str) -> tuple[int, collections.Counter[str], str | None]:
     """Sessions on one journal: how many messages, what they met, and what differed."""
     version = journals.VERSIONS[number % len(journals.VERSIONS)]
     writer, book = Writer(random.Random(f"{seed} {number}")), Book(SYMBOLS, CUTS[version])
-    met, messages, lines = collections.Counter(), 0, []
+    met: collections.Counter[str] = collections.Counter()
+    messages, lines = 0, []
     begun(journal, version)
     for at in range(SESSIONS):
         data, count = writer.session()
@@ -383,10 +391,12 @@ def batch(number, seed, journal):
     return messages, met, None
 
 
-def mutated_sessions(messages, seconds, seed, together):
+def mutated_sessions(messages: int, seconds: float, seed: str, together: int) -> tuple[int, list[str]]:
     """Batches of sessions until there were so many messages, or the time is over."""
     print(f"mutated_sessions: seed {seed}", flush=True)
-    end, total, batches, met, faults = time.monotonic() + seconds, 0, 0, collections.Counter(), []
+    end, total, batches = time.monotonic() + seconds, 0, 0
+    met: collections.Counter[str] = collections.Counter()
+    faults: list[str] = []
     with tempfile.TemporaryDirectory(prefix="hostile-bytes-") as folder:
         with concurrent.futures.ThreadPoolExecutor(together) as pool:
             while total < messages and time.monotonic() < end and len(faults) < 3:
@@ -403,13 +413,7 @@ def mutated_sessions(messages, seconds, seed, together):
     return total, faults
 
 
-def positive(word):
-    if not word.isdecimal() or not int(word):
-        raise argparse.ArgumentTypeError(f"not a number above 0: {word}")
-    return int(word)
-
-
-def main():
+def main() -> None:
     parser = argparse.ArgumentParser(description=__doc__, formatter_class=argparse.RawDescriptionHelpFormatter)
     parser.add_argument("names", nargs="*", metavar="NAME", help="which tests; all, if left out")
     parser.add_argument("--messages", type=positive, help="mutated messages; 100,000, if left out")

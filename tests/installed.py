@@ -1,13 +1,15 @@
 """The packages' life in a small Debian, which is made for that from Debian's mirror and booted in namespaces of its own. Not a test
 by itself: pytest -m long tests/package runs it, as root."""
 import contextlib
+import glob
+import itertools
 import os
 import re
 import shutil
 import subprocess
 import tempfile
 import time
-from collections.abc import Callable, Iterator
+from collections.abc import Callable, Iterator, Sequence
 
 from checks import ran
 from gikvand.fix import framed
@@ -20,6 +22,7 @@ PATH = "/usr/sbin:/usr/bin:/sbin:/bin"
 CGROUPS = ("/sys/fs/cgroup", "/sys/fs/cgroup/unified")
 JOURNALS, VOLUME = "/var/lib/venued", "/srv/venue"
 PROGRAMS = ("gikvand", "venued", "venue-replay", "venue-events")
+NUMBERS = itertools.count(1)  # Of machines.
 
 RECORDS, EDGE_SETTINGS, EXAMPLES = "/var/lib/gikvand-edge", "/etc/gikvand-edge", "/usr/share/doc/gikvand-edge/examples"
 EDGE, LOG = "gikvand-edge@C1", f"{RECORDS}/C1/log/FIX.4.4-GIKVAND-DESK-A.messages.current.log"
@@ -46,6 +49,7 @@ cd "$1"
 mount -t proc proc proc
 mount -t sysfs sysfs sys
 mount -t cgroup2 cgroup2 sys/fs/cgroup
+for it in "${@:3}"; do mkdir -p ".${it#*:}"; mount --bind "${it%%:*}" ".${it#*:}"; done
 mount -t tmpfs -o mode=755 tmpfs run
 mount -t tmpfs -o mode=755 tmpfs dev
 for it in null zero full random urandom tty; do touch "dev/$it"; mount --bind "/dev/$it" "dev/$it"; done
@@ -62,14 +66,16 @@ exec env -i container=small PATH="$2" /lib/systemd/systemd --log-target=null
 
 
 class Machine:
-    """A Debian that boots, and is asked by its shell."""
+    """A Debian that boots, and is asked by its shell. It has a network of its own, or that of another one, and folders of this machine
+    as HERE:THERE says."""
 
-    def __init__(self, root: str) -> None:
-        self.cgroup = os.path.join(cgroups(), f"small-{os.getpid()}")
+    def __init__(self, root: str, beside: "Machine | None" = None, volumes: Sequence[str] = ()) -> None:
+        self.cgroup = os.path.join(cgroups(), f"small-{os.getpid()}-{next(NUMBERS)}")
         self.seen: dict[str, int] = {}  # How many lines of a service's log were waited for, or passed by.
         os.mkdir(self.cgroup)
-        words = ["unshare", "--mount", "--pid", "--fork", "--uts", "--ipc", "--net", "--cgroup", "--kill-child", "bash", "-c", BOOT,
-                 "boot", root, PATH]
+        network = ["nsenter", "-t", beside.init(), "--net", "unshare"] if beside else ["unshare", "--net"]
+        words = [*network, "--mount", "--pid", "--fork", "--uts", "--ipc", "--cgroup", "--kill-child", "bash", "-c", BOOT, "boot", root, PATH,
+                 *volumes]
         self.process = subprocess.Popen(["bash", "-c", 'echo $$ >"$0/cgroup.procs"; exec "$@"', self.cgroup, *words],
                                         stdin=subprocess.DEVNULL, stdout=subprocess.DEVNULL, stderr=subprocess.DEVNULL)
 
@@ -328,11 +334,11 @@ def install_edge(it: Machine, package: str) -> None:
 
 
 def set_up_edge(it: Machine) -> None:
-    """Writes a member's settings as EDGE.md has it, with hours that have no pause: this may be a Sunday."""
-    it.do(f"cp {EXAMPLES}/C1.cfg {EDGE_SETTINGS}; sed -i '/^StartDay=/d; /^EndDay=/d' {EDGE_SETTINGS}/C1.cfg; "
+    """Writes a member's settings as EDGE.md has it, and has them read as its service reads them."""
+    it.do(f"cp {EXAMPLES}/C1.cfg {EDGE_SETTINGS}; "
           f"install -m 0600 -o gikvand-edge-C1 /dev/null {EDGE_SETTINGS}/C1.passwords; "
           f"echo desk-a:secret >>{EDGE_SETTINGS}/C1.passwords")
-    assert it.do(f"gikvand-edge --check {EDGE_SETTINGS}/C1.cfg") == "the settings are right"
+    assert it.do(f"gikvand-edge --check {EDGE_SETTINGS}/C1.cfg").startswith("the settings are right, as gikvand-edge-C1 (uid ")
 
 
 def messages(first: int, *bodies: tuple[str, str], answers: tuple[str, ...]) -> str:
@@ -451,3 +457,79 @@ def lives_in_a_debian(older: str, newer: str, edges: tuple[str, ...] = ()) -> No
             upgrade_edge_and_back(it, *pairs)
             remove_edge(it)
         remove(it)
+
+
+# The two images of contrib/container, each the root of a machine that is made as the recipe says.
+
+IN_A_ROOT = """set -eu
+for it in dev proc; do mount --rbind "/$it" "$0/$it"; done
+cp --remove-destination /etc/resolv.conf "$0/etc/resolv.conf"
+exec chroot "$0" env -i PATH="$1" DEBIAN_FRONTEND=noninteractive sh -c "$2"
+"""
+
+
+def steps_of(recipe: str, target: str) -> list[tuple[str, str]]:
+    """The instructions of a recipe that lead to a target, each with its words, from the base on."""
+    stages: dict[str, list[tuple[str, str]]] = {}
+    lines = re.sub(r"\\\n *", "", recipe).splitlines()
+    for instruction, _, words in (it.partition(" ") for it in lines if it and not it.startswith("#")):
+        if instruction == "FROM":
+            base, _, name = words.split()
+            stages[name] = list(stages.get(base, [("FROM", base)]))
+        else:
+            stages[name].append((instruction, words))
+    return stages[target]
+
+
+def made_root(recipe: str, target: str, packages: str, root: str) -> None:
+    """Makes the root folder of an image, with this machine's Debian in the place of the same one's image."""
+    for instruction, words in steps_of(recipe, target):
+        if instruction == "FROM":
+            assert words == f"debian:{release()}-slim"
+            status, _, err = ran("mmdebstrap", "--quiet", "--variant=apt", release(), root)
+        elif instruction == "COPY":
+            *patterns, folder = words.split()
+            found = [it for pattern in patterns for it in glob.glob(os.path.join(packages, pattern))]
+            assert len(found) == len(patterns)
+            status, _, err = ran("cp", *found, f"{root}{folder}")
+        elif instruction == "RUN":
+            status, _, err = ran("unshare", "--mount", "bash", "-c", IN_A_ROOT, root, PATH, words)
+        else:
+            continue  # What a container is told of its start, end and folders.
+        assert (words, status, err if status else "") == (words, 0, "")
+
+
+def lives_in_two_containers(recipe: str, packages: str) -> None:
+    """The venue and the edge, each in a container of its own: members trade, and both go on behind an end and a start."""
+    with tempfile.TemporaryDirectory(prefix="containers-") as folder:
+        roots, volume = {it: os.path.join(folder, it) for it in ("venue", "edge")}, os.path.join(folder, "venued")
+        os.mkdir(volume)
+        for target, root in roots.items():
+            made_root(recipe, target, packages, root)
+        for number in (2, 5):
+            venue = Machine(roots["venue"], volumes=[f"{volume}:{JOURNALS}"])
+            try:
+                venue.await_boot()
+                venue.await_that("a venue that serves", lambda: venue.state("venued") == "active")
+                edge = Machine(roots["edge"], venue, [f"{volume}:{JOURNALS}"])
+                try:
+                    edge.await_boot()
+                    trades_by_edge(edge, number)
+                    assert edge.state("venued") == "inactive"
+                finally:
+                    edge.end()
+                assert venue.do(f"gikvand verify {JOURNALS}/venue.journal").splitlines()[-1] == f"{JOURNALS}/venue.journal: nothing is wrong"
+                venue.do("systemctl stop venued")
+            finally:
+                venue.end()
+
+
+def trades_by_edge(it: Machine, number: int) -> None:
+    """The member C1 sends an order by its edge, with this number of its session; the settings are written at the first time."""
+    if number == 2:
+        set_up_edge(it)
+        it.do(f"systemctl restart {EDGE}")
+    it.await_that("an edge that serves", lambda: serves_last(it))
+    bodies = [logon("secret"), ("D", f"11=ORD-{number}|21=1|38=5|40=2|44=0.40|54=1|55=ABC|59=0|60=NOW|"), ("5", "")]
+    status, said = spoken(it, messages(number - 1, *bodies, answers=("A", "8", "5")))
+    assert (status, [part in said for part in ("|35=A|", f"|11=ORD-{number}|", "|150=0|")]) == (0, [True] * 3)

@@ -34,6 +34,7 @@ ROOT = os.path.dirname(os.path.dirname(os.path.abspath(__file__)))
 sys.path.insert(0, os.path.join(ROOT, "dev"))
 
 import with_scripts  # (in front of what stands there, and of what an older Python can't read)
+from checks import put
 from gikvand import journals
 from gikvand.journals import Entry
 from measuring import instructions
@@ -94,8 +95,7 @@ def replayed(folder: str, orders: Sequence[tuple], symbols: list[str]) -> Run:
     entries = [Entry(1, message(1, at + 2, "D", order(at + 1, side, quantity, price, symbol, terms)))
                for at, (symbol, side, quantity, price, terms) in enumerate(orders)]
     path = os.path.join(folder, "day.journal")
-    with open(path, "wb") as file:
-        file.write(journals.header(1) + journals.in_blocks(1, entries, 64) + journals.CLOSED)
+    put(path, journals.header(1) + journals.in_blocks(1, entries, 64) + journals.CLOSED)
     return Run([REPLAY, path, "book", *symbols])
 
 
@@ -136,12 +136,12 @@ def fits(name: str, count: int) -> bool:
     return COUNTS[name] * (1 - BELOW) <= count <= COUNTS[name] * (1 + ABOVE)
 
 
-def counted(make, more: float = 1) -> int:
+def counted(make: Callable[[str, float], Run], more: float = 1) -> int:
     with tempfile.TemporaryDirectory(prefix="instructions-") as folder:
         return instructions(*make(folder, more))
 
 
-def tried(make) -> str:
+def tried(make: Callable[[str, float], Run]) -> str:
     """Counts a run as it is, and with more input."""
     name, count = make.__name__, counted(make)
     if name not in COUNTS:

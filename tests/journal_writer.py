@@ -3,12 +3,12 @@ import random
 import struct
 from typing import NamedTuple
 
-from book_rules import Book, Order, Report
 from gikvand import journals
 from gikvand.journals import Entry
-from gikvand.rules import sealed
+from gikvand.fix import sealed
 from gikvand.words import sure
-from snapshot_rules import HEAD, MOST_OUTPUTS, ORDER, snapshot
+from oracle.book_rules import Book, Order, Report
+from oracle.snapshot_rules import HEAD, MOST_OUTPUTS, ORDER, snapshot
 
 TABLES = [("ABC",), ("ABC", "XYZ"), ("ABC", "XYZ"), ("B", "A", "X9")]
 TIMES = ("20250102-09:30:00", "20250102-09:30:01", "99999999-99:99:99")

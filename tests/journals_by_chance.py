@@ -9,7 +9,7 @@
 The journals are of all versions, with limit and market orders, cancels, replaces and messages with faults; those of version
 3 have snapshots at any places, true ones and such as have one byte or one field changed; some journals are damaged. On each
 the words book, Cn, check, carry and snapshot are run, one after the other, and then some again, on what was carried over
-too. Status, standard output, standard error and the files have to be those of tests/replay_rules.py. Of a file that a failed
+too. Status, standard output, standard error and the files have to be those of tests/oracle/replay_rules.py. Of a file that a failed
 carry leaves nothing is asked; it is deleted.
 
 `wrong_rules` shows that these journals tell: each of the wrong rules of tests/wrong_replays.py has to differ on one of them.
@@ -17,7 +17,7 @@ carry leaves nothing is asked; it is deleted.
 
 What differs is shown with the number of its journal, which is kept as a file of that name where --keep says a folder. The
 last line is `N passed, M failed`, and the status is 1 where one failed. Build the program first, by scripts/build; another is
-taken by the environment's VENUE_REPLAY, and tests/replay_rules.py is one.
+taken by the environment's VENUE_REPLAY, and tests/oracle/replay_rules.py is one.
 """
 import argparse
 import collections
@@ -32,14 +32,15 @@ from collections.abc import Callable, Iterator
 from itertools import zip_longest
 from typing import NamedTuple
 
-from replay_rules import USAGE, WRONG_WORDS, Outcome, Replayer, Symbols  # (first: it finds the scripts' modules)
-import snapshot_rules
-from book_rules import Book
+from oracle.replay_rules import USAGE, WRONG_WORDS, Outcome, Replayer, Symbols, counts, line_of, said  # (first: it finds others)
+from checks import put
 from gikvand.journals import MEMBERS, Journal, Snapshot
+from gikvand.words import positive
 from journal_writer import DEEP, Chosen, chosen, deep
 from replay_program import FOLDERS, Program, is_built, not_built
-from replay_rules import counts, line_of, said
-from snapshot_rules import BadSnapshot
+from oracle import snapshot_rules
+from oracle.book_rules import Book
+from oracle.snapshot_rules import BadSnapshot
 from wrong_replays import CONDITIONS, WRONG, Wrong
 
 SAMPLE = 1_200       # Journals of the full check,
@@ -163,10 +164,7 @@ def kept(folder: str | None, number: int, data: bytes) -> str:
     if folder is None:
         return f"; its bytes: {short(data)}"
     os.makedirs(folder, exist_ok=True)
-    path = os.path.join(folder, f"{number}.journal")
-    with open(path, "wb") as file:
-        file.write(data)
-    return f"; kept as {path}"
+    return f"; kept as {put(os.path.join(folder, f'{number}.journal'), data)}"
 
 
 def journals(given: argparse.Namespace) -> tuple[str, list[str]]:
@@ -242,12 +240,6 @@ def wrong_words(_: argparse.Namespace) -> tuple[str, list[str]]:
         came = {tuple(words): program.run(words) for words in WRONG_WORDS}
         faults = [f"{list(words)}: came {it}" for words, it in came.items() if it != Outcome(1, "", f"{USAGE}\n")]
         return f"{len(came)} runs", faults + [f"made {it}" for it in os.listdir(folder)]
-
-
-def positive(word: str) -> int:
-    if not word.isdecimal() or not int(word):
-        raise argparse.ArgumentTypeError(f"not a number above 0: {word}")
-    return int(word)
 
 
 def read_words() -> argparse.Namespace:

@@ -4,7 +4,7 @@ to refuse every one.
 
     tests/known_bad.py [NAME...]      the tests whose names have one of these words in them; without one all
 
-`wrong_rules`: each rule of tools/gikvand/rules.py and tests/book_rules.py, turned off or turned round (tests/wrong_rules.py), differs
+`wrong_rules`: each rule of tests/oracle for a member's bytes and for the book, turned off or turned round (tests/wrong_rules.py), differs
 from the right ones at a session of tests/corners.py. `wrong_answers`: the bytes that are due in a session, with one byte, one
 message, their order, a number or a price changed. `wrong_lines`: the same of what venue-replay prints. `wrong_venues` and
 `wrong_replays`: tests/test_members.py, tests/hostile_bytes.py, tests/refused_memory.py, tests/test_worked_journals.py and
@@ -13,14 +13,15 @@ tests/journals_by_chance.py, with programs in the place of the built ones that d
 tests/tools, tests/test_board_page.py and tests/follow_load.py, with commands of gikvand that are wrong in one thing
 (tests/wrong_tools.py). `wrong_packages`: tests/package, with pages, words for bash, services and packages that are
 (tests/wrong_package.py), and `wrong_edge_packages` the same of the edge's, once that is built. `wrong_scripts`: tests/test_users.py,
-test_pin.py, dictionary.py, promises.py, test_plays.py, test_ci.py and test_conftest.py, with scripts, pages, plays and a check that are
-(tests/wrong_scripts.py). `taken_ones`: what this itself says of tools that are right and of tests that there aren't: that they
-weren't refused.
+test_pin.py, dictionary.py, promises.py, test_plays.py, test_ci.py, test_conftest.py, test_lint.py and test_measures.py, with scripts,
+pages, plays and a check that are (tests/wrong_scripts.py). `taken_ones`: what this itself says of tools that are right and of tests
+that there aren't: that they weren't refused.
 
 What isn't refused has a line. The last line is `N passed, M failed`, and the status is 1 where one failed. Build the
 programs first, by scripts/build; others are taken by the environment's VENUED, VENUE_REPLAY, VENUE_EVENTS and GIKVAND_EDGE.
 """
 import concurrent.futures
+import glob
 import os
 import re
 import shutil
@@ -42,24 +43,28 @@ import hostile_bytes
 import refusals
 import refused_memory
 import wrong_program
-from book_rules import Book
 from corners import LOGON, SYMBOLS, Corner, all_corners, buy, cut, market, sell, spelled
-from gikvand.rules import Judged, sealed, told
+from gikvand.fix import sealed
 from hostile_bytes import kept_difference
-from replay_rules import line_of
+from oracle.book_rules import Book
+from oracle.replay_rules import line_of
+from oracle.session_rules import Judged, told
 from venues import EVENTS, LATE, REPLAY, VENUED, Trouble, need_programs
+from warm_pytest import WarmPytests
 from wrong_package import WRONG as WRONG_PACKAGES
 from wrong_rules import WRONG
 from wrong_scripts import WRONG as WRONG_SCRIPTS
 from wrong_tools import WRONG as WRONG_TOOLS
 
 TESTS = os.path.dirname(os.path.abspath(__file__))
+TEST = re.compile(r"^def (test_\w+)", re.MULTILINE)  # The name of a test.
 TOGETHER = os.cpu_count() or 1
 PROGRAMS = {"VENUED": os.path.abspath(VENUED), "VENUE_REPLAY": os.path.abspath(REPLAY), "VENUE_EVENTS": os.path.abspath(EVENTS),
             "GIKVAND_EDGE": checks.EDGE}
 A_DAY = [LOGON, sell(1, 5, 50), ("1", "112=hi|"), buy(2, 3, 50), buy(3, 4, 51), cut(4, 3), market(5, 2, 1), buy(6, 1, 49),
          ("0", "")]
 LONG = 180  # Seconds for a test with a wrong program, which may have to wait for what never comes.
+PYTESTS = WarmPytests()
 
 
 def answer_to(judged: Judged) -> list[bytes]:
@@ -90,8 +95,8 @@ class Played:
     def differs(self, modules: dict[str, types.ModuleType]) -> bool:
         """Whether other rules differ here. Such as find no answer at all do."""
         try:
-            book = corners.book_of(self.corner.journal, modules["book_rules"])
-            if modules["gikvand.rules"].Judged(self.corner.data, book).difference(self.out):
+            book = corners.book_of(self.corner.journal, modules["oracle.book_rules"])
+            if modules["oracle.session_rules"].Judged(self.corner.data, book).difference(self.out):
                 return True
             return self.corner.shows_book and book_lines(book) != self.lines
         except (LookupError, ValueError, TypeError, AttributeError):
@@ -186,7 +191,7 @@ def wrong_lines() -> tuple[int, list[str]]:
     """Lines of venue-replay, of which one is another, missing, surplus, or at another place."""
     book = Book(SYMBOLS)
     lines = [*Judged(spelled(*A_DAY), book).lines(), *book_lines(book)]
-    others = [("one more", [*lines, "x"]), ("none", [])]
+    others: list[tuple[str, list[str]]] = [("one more", [*lines, "x"]), ("none", [])]
     for at, line in enumerate(lines):
         others.append((f"line {at} with another end", lines[:at] + [f"{line[:-1]}~"] + lines[at + 1:]))
         others.append((f"line {at} missing", lines[:at] + lines[at + 1:]))
@@ -203,31 +208,43 @@ def refuses(words: list[str], program: str, wrong: str) -> tuple[str, str | None
         return refused(words, wrong, {which: put_in_place(folder, wrong, program)})
 
 
-def command_of(words: list[str]) -> list[str]:
-    """How a test of ours is run: a program, or a module or folder of tests, which pytest runs."""
+def ran(words: list[str], environment: dict[str, str]) -> tuple[int | None, str]:
+    """Runs a test of ours, a program, or a module or folder of tests, which pytest runs: its status, None where it doesn't end, and
+    what it said."""
     path = os.path.join(TESTS, words[0])
-    if not os.path.isdir(path) and not os.path.basename(path).startswith("test_"):
-        return [sys.executable, path, *words[1:]]
-    named = [word for it in words[1:] for word in ("--named", it)]
-    return [debian.python_with_pytest(), "-m", "pytest", "-q", "-x", "-p", "no:cacheprovider", "-p", "no:xdist", path, *named]
+    if os.path.isdir(path) or os.path.basename(path).startswith("test_"):
+        named = [word for it in words[1:] for word in ("--named", it)]
+        options = ["-q", "-x", "-p", "no:cacheprovider", "-p", "no:xdist"]
+        return PYTESTS.ran(debian.python_with_pytest(), [*options, *modules_at(path, words[1:]), *named], environment, LONG)
+    try:
+        it = subprocess.run([sys.executable, path, *words[1:]], env=environment, timeout=LONG, stdout=subprocess.PIPE,
+                            stderr=subprocess.STDOUT, text=True)
+    except subprocess.TimeoutExpired:
+        return None, ""
+    return it.returncode, it.stdout
+
+
+def modules_at(path: str, names: list[str]) -> list[str]:
+    """The modules of a folder that have tests of these names, so that no other one is read; else this path alone."""
+    found = [it for it in sorted(glob.glob(os.path.join(path, "test_*.py")))
+             if any(name in test for test in TEST.findall(checks.text_of(it)) for name in names)]
+    return found or [path]
 
 
 def refused(words: list[str], wrong: str, settings: dict[str, str]) -> tuple[str, str | None]:
     """Runs a test of ours with these settings, by which something is wrong: its name, and why that is no refusal, or None."""
     name = f"{' '.join(words)} with {wrong or 'nothing wrong'}"
     environment = {**os.environ, **settings, "VENUE_PATIENCE": "10" if wrong else "30"}
-    try:
-        it = subprocess.run(command_of(words), env=environment, timeout=LONG, stdout=subprocess.PIPE, stderr=subprocess.STDOUT,
-                            text=True)
-    except subprocess.TimeoutExpired:
+    status, said = ran(words, environment)
+    if status is None:
         return name, f"hasn't ended within {LONG} seconds"
-    counted = re.fullmatch(r"(\d+) passed, (\d+) failed", (it.stdout.splitlines() or [""])[-1])
+    counted = re.fullmatch(r"(\d+) passed, (\d+) failed", (said.splitlines() or [""])[-1])
     if not counted:
-        return name, f"ended without its last line: {it.stdout[-300:]}"
-    if (it.returncode != 0) != (int(counted[2]) > 0):
-        return name, f"ended with status {it.returncode} behind '{counted[0]}'"
-    if bool(it.returncode) != bool(wrong):
-        return name, f"said '{counted[0]}': {it.stdout[-300:] if not wrong else ''}"
+        return name, f"ended without its last line: {said[-300:]}"
+    if (status != 0) != (int(counted[2]) > 0):
+        return name, f"ended with status {status} behind '{counted[0]}'"
+    if bool(status) != bool(wrong):
+        return name, f"said '{counted[0]}': {said[-300:] if not wrong else ''}"
     return name, None
 
 
@@ -302,11 +319,8 @@ def fault_of_first_session(sweeps: refusals.Sweeps) -> str | None:
 
 def put_in_place(folder: str, wrong: str, program: str) -> str:
     """The path of a program in this folder that is wrong so."""
-    path = os.path.join(folder, os.path.basename(program))
-    with open(path, "w", encoding="utf-8") as file:
-        file.write(f"#!/bin/sh\nexec {sys.executable} -S {wrong_program.__file__} '{wrong}' {program} \"$@\"\n")
-    os.chmod(path, 0o755)
-    return path
+    text = f"#!/bin/sh\nexec {sys.executable} -S {wrong_program.__file__} '{wrong}' {program} \"$@\"\n"
+    return checks.put_text(os.path.join(folder, os.path.basename(program)), text, 0o755)
 
 
 def wrong_replays() -> tuple[int, list[str]]:
@@ -396,6 +410,7 @@ def main() -> None:
             print(f"{test.__name__}: {it}")
         print(f"{test.__name__}: {count} tried, {len(faults)} not refused", flush=True)
         failed += bool(faults)
+    PYTESTS.end()
     print(f"{len(chosen) - failed} passed, {failed} failed")
     sys.exit(1 if failed else 0)
 

@@ -12,11 +12,12 @@ import sys
 import tempfile
 import time
 from collections.abc import Iterator
-from typing import AnyStr, NamedTuple
+from typing import NamedTuple
 
+from checks import contents, put  # (for those that import this module)
 from gikvand import main as tools
 from gikvand import journals
-from venues import PATIENCE, REPLAY, TIME, Client, Trouble, market_order, order, started, value
+from venues import PATIENCE, REPLAY, TIME, Client, Trouble, Venue, market_order, order, replay, started, value
 
 TOOLS = os.path.dirname(os.path.dirname(os.path.abspath(tools.__file__)))
 SYMBOLS = ("ABC", "XYZ")
@@ -85,20 +86,9 @@ def followed(*words: object) -> tuple[int, list[str], list[str]]:
     return status, [untimed(it) for it in out], [untimed(it) if " (at " in it else it for it in err]
 
 
-def put(name: AnyStr, data: bytes) -> AnyStr:
-    """Makes a file of these bytes."""
-    with open(name, "wb") as file:
-        file.write(data)
-    return name
-
-
-def contents(name: str) -> bytes:
-    with open(name, "rb") as file:
-        return file.read()
-
-
-def trade(venue, day: list[tuple[int, str, str]], heard: dict[int, list[str]]) -> None:
-    """Lets the members send this, each message once the one before is answered."""
+def trade(venue: Venue, day: list[tuple[int, str, str]], heard: dict[int, list[str]]) -> None:
+    """Lets the members send this, each message once the one before is answered, and hear all that the journal tells them: what they
+    heard of it before is there already."""
     clients = {it: Client(venue.port, it).log_on() for it in (1, 2, 3)}
     for member, kind, body in day:
         it = clients[member]
@@ -110,8 +100,11 @@ def trade(venue, day: list[tuple[int, str, str]], heard: dict[int, list[str]]) -
             if name == value(came, "11") or number == value(came, "45"):
                 break
     for member, it in clients.items():
-        while not it.is_quiet(0.05):
-            heard[member].append(it.next() or "nothing")
+        told, _ = replay(venue.journal, f"C{member}", SYMBOLS)
+        while len(heard[member]) < len(told) or not it.is_quiet(0.05):
+            if not (more := it.next()):
+                raise Trouble(f"C{member} has heard {len(heard[member])} of {len(told)} reports")
+            heard[member].append(more)
         it.close()
 
 

@@ -1,5 +1,4 @@
 """A man page in mdoc, as far as tests look into it: what its sections, lists and headings show. Not a test."""
-import os
 import re
 
 CLOSING = {",", ".", ":", ";", ")"}
@@ -35,10 +34,9 @@ def spelled(line: str) -> str:
 class Page:
     """A page: the lines of each of its sections."""
 
-    def __init__(self, path: str) -> None:
-        self.name = os.path.basename(path).rpartition(".")[0]
-        with open(path, encoding="ascii") as file:
-            _, *parts = re.split(r"^\.Sh (.*)\n", file.read(), flags=re.MULTILINE)
+    def __init__(self, name: str, text: str) -> None:
+        self.name = name.rpartition(".")[0]
+        _, *parts = re.split(r"^\.Sh (.*)\n", text, flags=re.MULTILINE)
         self.sections = {head: text.splitlines() for head, text in zip(parts[::2], parts[1::2])}
 
     def synopsis(self) -> list[str]:

@@ -1,7 +1,7 @@
 #!/usr/bin/env python3
-"""Checks that the sources have what docs/PROMISES.md cites: functions and clauses, definitions and their fields, edits.
+"""Checks that the sources have what docs/CLAUSES.md cites of each promise: functions and clauses, definitions and their fields, edits.
 
-    tests/promises.py [PROMISES]
+    tests/promises.py [CLAUSES [PROMISES]]
 
 Citations stand in backquotes, in each item `- **Clauses**:` and in the section "The parts, by crate":
 
@@ -17,6 +17,9 @@ The wrong bodies in each item `- **Refused**:` are edits that there are. The tab
 has just those in must-fail, each with a function of its crate, public or not, and clauses of that. And each edit that
 there is stands in the list that `dev/edits --promises` prints, under the function that it changes.
 
+The promises are those of docs/PROMISES.md, in the same order and by the same titles, each with a premise, and what that page says is
+only tested or isn't kept names tests, programs and crates that there are.
+
 Each citation that isn't there has a line of its own; the last line is `N passed, M failed`, and the status is 1 where
 one failed. The benchmarks promise nothing and aren't looked at.
 """
@@ -26,11 +29,13 @@ import os
 import re
 import subprocess
 import sys
+from collections.abc import Iterator
 
 ROOT = os.path.dirname(os.path.dirname(os.path.abspath(__file__)))
 sys.path.insert(0, os.path.join(ROOT, "dev"))
 
 import with_scripts  # (in front of what stands there, and of what an older Python can't read)
+from gikvand.words import sure
 
 TRAIT = re.compile(r"pub trait (\w+)")
 IMPL = re.compile(r"impl\b(?:<[^{]*?>)? (?:(?:\w+::)*(?P<trait>\w+)(?:<[^{]*>)? for )?(?:\w+::)*(?P<type>\w+)")
@@ -43,6 +48,10 @@ DEFINITION = re.compile(r"( *)(?:(?:abbrev|unfoldable) pub|pub (?:record|data)) 
 FIELD = re.compile(r"( *)pub (\w+) :")
 
 PROMISE = re.compile(r"## \d+\. ")
+PREMISE = "**Premise**: "
+NOT_PROVED = ("## What isn't kept", "## Only tested")
+PATH = re.compile(r"(?:tests|dev|edge|feed|scripts|tools|contrib|crates)/[\w./-]*")
+OF_TESTS = re.compile(r"\w+_tests")
 CLAUSES = "- **Clauses**:"
 REFUSED = "- **Refused**:"
 TRIED = "## Tried at every check"
@@ -54,14 +63,18 @@ EDIT = re.compile(r"`([a-z]\w*)`")
 ROW = re.compile(r"\| `(\w+)/(\w+)` \| .+ \| `([\w:]+)`(?: \(([^()]*)\))? \|$")
 
 
+Place = tuple[str, str]  # A crate, and a module of it.
+
+
 class Function:
     """A function of the sources: its place, whose it is, and its clauses."""
 
-    def __init__(self, place, owner, name, is_public):
+    def __init__(self, place: Place, owner: str | None, name: str, is_public: bool) -> None:
         self.crate, self.module = place
-        self.owner, self.name, self.is_public, self.clauses = owner, name, is_public, set()
+        self.owner, self.name, self.is_public = owner, name, is_public
+        self.clauses: set[str] = set()
 
-    def stands_in(self, word):
+    def stands_in(self, word: str) -> bool:
         """Whether the word may stand in front of its name."""
         return word == self.owner if self.owner else word in (self.crate, self.module)
 
@@ -69,9 +82,13 @@ class Function:
 class Sources:
     """What there is to be cited. A trait stands in `kept` with its clauses, alone and as each type keeps it."""
 
-    def __init__(self):
-        self.functions, self.kept, self.types, self.fields, self.others = [], {}, set(), {}, set()
-        self.named_on = set()  # A crate, and what it names on: the other crate, the name.
+    def __init__(self) -> None:
+        self.functions: list[Function] = []
+        self.kept: dict[tuple[str, str | None], set[str]] = {}
+        self.types: set[str] = set()
+        self.fields: dict[str, set[str]] = {}
+        self.others: set[str] = set()
+        self.named_on: set[tuple[str, str, str]] = set()  # A crate, and what it names on: the other crate, the name.
         for crate in sorted(it for it in os.listdir(f"{ROOT}/crates") if it != "bench"):
             self.others.add(crate)
             root = "\n".join(lines_of(f"{ROOT}/crates/{crate}/src/{root_of(crate)}"))
@@ -83,9 +100,12 @@ class Sources:
             for path in sorted(glob.glob(f"{ROOT}/crates/{crate}/specs/**/*.antt", recursive=True)):
                 self.add_definitions(lines_of(path))
 
-    def add_code(self, place, lines):
+    def add_code(self, place: Place, lines: list[str]) -> None:
         """The functions of a file in rt fmt's layout, where a clause stands one step further in than its function."""
-        owner, kept, last, indent = None, None, None, ""
+        owner: str | None = None
+        kept: set[str] | None = None
+        last: Function | None = None
+        indent = ""
         for line in lines:
             if found := TRAIT.match(line):
                 owner, kept = found[1], self.kept.setdefault((found[1], None), set())
@@ -102,15 +122,16 @@ class Sources:
                 last = Function(place, owner, found[3], is_public)
                 self.functions.append(last)
             elif (found := CLAUSE.match(line)) and found[1] == indent:
-                last.clauses.add(found[2])
+                sure(last).clauses.add(found[2])
                 if kept is not None:
                     kept.add(found[2])
             elif (found := GHOST.match(line)) and kept is not None:
                 kept.add(found[1])
 
-    def add_definitions(self, lines):
+    def add_definitions(self, lines: list[str]) -> None:
         """The definitions of a file, with the fields of those that are records."""
-        fields, indent = set(), ""
+        fields: set[str] = set()
+        indent = ""
         for line in lines:
             if found := DEFINITION.match(line):
                 indent, fields = found[1], self.fields.setdefault(found[2], set())
@@ -119,10 +140,10 @@ class Sources:
             elif not line:
                 fields = set()
 
-    def is_named(self, name):
+    def is_named(self, name: str) -> bool:
         return name in self.types or name in self.fields
 
-    def function(self, name, crate, owner):
+    def function(self, name: str, crate: str | None, owner: str | None) -> list[Function]:
         """The functions that a citation may mean, in this crate if one is given, behind one of this type."""
         word, _, name = name.rpartition("::")
         named = [it for it in self.functions if it.is_public and it.name == name]
@@ -131,17 +152,17 @@ class Sources:
         of_owner = [it for it in named if owner and it.owner == owner]
         return of_owner or [it for it in named if not it.owner and self.has(crate, it)]
 
-    def has(self, crate, function):
+    def has(self, crate: str | None, function: Function) -> bool:
         """Whether the free function is one of the crate's, or one that it names on; any is where no crate is given."""
         return crate in (None, function.crate) or (crate, function.crate, function.name) in self.named_on
 
-    def inner(self, name, crate):
+    def inner(self, name: str, crate: str) -> list[Function]:
         """The functions of a crate that a citation may mean, public or not."""
         word, _, name = name.rpartition("::")
         named = [it for it in self.functions if it.crate == crate and it.name == name]
         return [it for it in named if it.stands_in(word)] if word else named
 
-    def trait(self, name):
+    def trait(self, name: str) -> set[str] | None:
         """The clauses of a trait as a type keeps it, or None where it doesn't."""
         trait, _, owner = name.partition(" for ")
         own = self.kept.get((trait, owner))
@@ -151,16 +172,17 @@ class Sources:
 class Check:
     """Reads one citation after another, and counts."""
 
-    def __init__(self, sources):
-        self.sources, self.passed, self.faults = sources, 0, []
+    def __init__(self, sources: Sources) -> None:
+        self.sources, self.passed = sources, 0
+        self.faults: list[tuple[int, str]] = []
 
-    def count(self, line, fault):
+    def count(self, line: int, fault: str | None) -> None:
         if fault:
             self.faults.append((line, fault))
         else:
             self.passed += 1
 
-    def read(self, line, crate, item):
+    def read(self, line: int, crate: str | None, item: str) -> None:
         """An item of the page that begins on this line, with the crate that it is of, if it is of one."""
         owner = None
         for found in CITATION.finditer(item):
@@ -181,7 +203,7 @@ class Check:
             if not fault:
                 self.read_brackets(at, name, clauses, found[2] or "")
 
-    def read_brackets(self, line, name, clauses, text):
+    def read_brackets(self, line: int, name: str, clauses: set[str] | None, text: str) -> None:
         """What stands in brackets right behind a citation."""
         for part in text.split(";"):
             head, *tail = re.split(r"(?<=`):", part, maxsplit=1)
@@ -193,7 +215,7 @@ class Check:
                 has = self.sources.is_named(it) or any(it in self.sources.fields.get(record, ()) for record in names)
                 self.count(line, None if has else f"`{name}`: no definition or field `{it}` behind {head.strip()}")
 
-    def read_row(self, line, crate, name, clauses):
+    def read_row(self, line: int, crate: str, name: str, clauses: str | None) -> None:
         """What the table says of a wrong body of this crate: a function, or one that it calls, and clauses of that."""
         them = self.sources.inner(name, crate) or self.sources.function(name, None, None)
         self.count(line, None if len(them) == 1 else f"{crate} has {len(them)} functions `{name}`")
@@ -202,19 +224,21 @@ class Check:
             self.count(line, None if has else f"`{name}` of {crate} has no clause `{clause}`")
 
 
-def root_of(crate):
+def root_of(crate: str) -> str:
     """The file that a crate begins with."""
     return "lib.rt" if os.path.exists(f"{ROOT}/crates/{crate}/src/lib.rt") else "main.rt"
 
 
-def lines_of(path):
+def lines_of(path: str) -> list[str]:
     with open(path, encoding="utf-8") as file:
         return file.read().split("\n")
 
 
-def items_of(lines):
+def items_of(lines: list[str]) -> Iterator[tuple[int, str | None, str]]:
     """The items with citations: the number of the line that each begins on, the crate that it is of, and its text."""
-    section, crate, item = "", None, []
+    section = ""
+    crate: str | None = None
+    item: list[str] = []
     for number, line in enumerate([*lines, ""], 1):
         if item and (not line or line.startswith("- ")):
             yield number - len(item), crate, "\n".join(item)
@@ -227,7 +251,7 @@ def items_of(lines):
             item.append(line)
 
 
-def refused_in(lines):
+def refused_in(lines: list[str]) -> Iterator[tuple[int, str]]:
     """The wrong bodies that the promises name, with the number of the line that each is on."""
     is_inside = False
     for number, line in enumerate(lines, 1):
@@ -236,7 +260,7 @@ def refused_in(lines):
             yield from ((number, name) for name in EDIT.findall(line))
 
 
-def tried_in(lines):
+def tried_in(lines: list[str]) -> Iterator[tuple[int, re.Match[str] | None]]:
     """The rows of the table of those that are tried at every check, with the number of the line that each is on."""
     section = ""
     for number, line in enumerate(lines, 1):
@@ -245,12 +269,29 @@ def tried_in(lines):
             yield number, ROW.match(line)
 
 
-def in_must_fail():
+def in_must_fail() -> set[tuple[str, str]]:
     """The crate and the name of each edit in must-fail."""
     return {(it.split("/")[-3], os.path.basename(it)[:-5]) for it in glob.glob(f"{ROOT}/crates/*/must-fail/*.edit")}
 
 
-def edits():
+def promises_in(lines: list[str]) -> Iterator[tuple[int, str, str]]:
+    """The promises of a page, each with the number of its line, its title and its text."""
+    heads = [number for number, line in enumerate(lines) if line.startswith("## ")]
+    for first, end in zip(heads, [*heads[1:], len(lines)]):
+        if PROMISE.match(lines[first]):
+            yield first + 1, lines[first], "\n".join(lines[first + 1:end])
+
+
+def tested_in(lines: list[str]) -> Iterator[tuple[int, str]]:
+    """The tests, programs and crates that a page says try what isn't proved, with the number of the line that each is on."""
+    section = ""
+    for number, line in enumerate(lines, 1):
+        section = line if line.startswith("## ") else section
+        if section in NOT_PROVED:
+            yield from ((number, it) for it in QUOTED.findall(line) if PATH.fullmatch(it) or OF_TESTS.fullmatch(it))
+
+
+def edits() -> tuple[set[str], list[str]]:
     """The names of all edits, and those that the list of edits by function has too seldom or too often."""
     there = collections.Counter(os.path.basename(it)[:-5] for it in glob.glob(f"{ROOT}/crates/*/*/*.edit"))
     words = [sys.executable, f"{ROOT}/dev/edits", "--promises"]
@@ -259,12 +300,8 @@ def edits():
     return {*there}, sorted((there - listed) + (listed - there))
 
 
-def main():
-    if set(sys.argv[1:]) & {"-h", "--help"}:
-        print(__doc__.strip())
-        return
-    path = sys.argv[1] if len(sys.argv) > 1 else f"{ROOT}/docs/PROMISES.md"
-    lines, check = lines_of(path), Check(Sources())
+def read_clauses(check: Check, lines: list[str]) -> None:
+    """The page of the clauses: its citations, its wrong bodies, and its table of those that are tried at every check."""
     promises = sum(1 for line in lines if PROMISE.match(line))
     lists = sum(1 for line in lines if line.startswith(CLAUSES))
     check.count(1, None if promises == lists > 0 else f"{promises} promises have {lists} lists of clauses")
@@ -282,10 +319,35 @@ def main():
             check.read_row(number, row[1], row[3], row[4])
     check.count(1, f"no row in '{TRIED}': {', '.join(sorted(map('/'.join, left)))}" if left else None)
     check.count(1, f"not listed by function as they are: {', '.join(unlisted)}" if unlisted else None)
-    for line, fault in check.faults:
-        print(f"{os.path.relpath(path)}:{line}: {fault}")
-    print(f"{check.passed} passed, {len(check.faults)} failed")
-    sys.exit(1 if check.faults else 0)
+
+
+def read_promises(check: Check, lines: list[str], titles: list[str]) -> None:
+    """The page of the promises, which are to have these titles, and what it says is tested."""
+    own = list(promises_in(lines))
+    check.count(1, None if titles == [title for _, title, _ in own] else "its promises are others than those with clauses")
+    for number, title, text in own:
+        check.count(number, None if PREMISE in " ".join(text.split()) else f"'{title}' has no premise")
+    for number, name in tested_in(lines):
+        is_there = os.path.exists(f"{ROOT}/{name}") or name in check.sources.others
+        check.count(number, None if is_there else f"no `{name}`")
+
+
+def main() -> None:
+    if set(sys.argv[1:]) & {"-h", "--help"}:
+        print(__doc__.strip())
+        return
+    pages = [*sys.argv[1:], *[f"{ROOT}/docs/{it}.md" for it in ("CLAUSES", "PROMISES")][len(sys.argv) - 1:]]
+    clauses, promises = map(lines_of, pages)
+    sources = Sources()
+    checks = [Check(sources), Check(sources)]
+    read_clauses(checks[0], clauses)
+    read_promises(checks[1], promises, [title for _, title, _ in promises_in(clauses)])
+    for page, check in zip(pages, checks):
+        for line, fault in check.faults:
+            print(f"{os.path.relpath(page)}:{line}: {fault}")
+    failed = sum(len(it.faults) for it in checks)
+    print(f"{sum(it.passed for it in checks)} passed, {failed} failed")
+    sys.exit(1 if failed else 0)
 
 
 if __name__ == "__main__":

@@ -1,6 +1,6 @@
 #!/usr/bin/env python3
 """Checks dev/reads: on two made-up crates, whose definitions are few enough to say what it has to print, and on the
-project's own, where each name of each clause has to be found.
+project's own, where each name of each clause has to be found, and each page is as long as dev/measured.json says.
 
     tests/reads.py
 
@@ -16,21 +16,16 @@ ROOT = os.path.dirname(os.path.dirname(os.path.abspath(__file__)))
 sys.path.insert(0, os.path.join(ROOT, "dev"))
 
 import with_scripts  # (in front of what stands there, and of what an older Python can't read)
+import ratchet
 from below import Entry, Project
-from checks import Check, printed
+from checks import Check, printed, put_text
+from figures import CHAPTERS, ENDS, RECORDS, WHOLE, Page
 
 SCRIPTS = [*(f"dev/{it}" for it in ("reads", "below.py", "antt.py", "contracts.py", "with_scripts.py")),
            *(f"scripts/{it}" for it in ("crates.py", "needs_python.py", "with_tools.py"))]
 
-# What one has to read of `listen` grows no longer, and never is nothing.
-LISTEN = ("listen", "--clause", "ends")
-LEAST, MOST = (250, 30), (600, 100)
-
-# The record of the headline, and the chapters that it leaves to themselves: each is a page.
-RECORDS = (("listen", "--clause", "seen"), ("venue::serve", "--clause", "seen"))
-CHAPTERS = ("gateway::Standing::At", "outputs_of", "state_of", "texts_to", "IsJournal", "HasCut", "HasTrueSnapshots",
-            "gateway::Standing::Standing")
-A_PAGE = ("--most", "250", "20")
+LEAST = (250, 30)  # What one has to read of `listen` never is nothing,
+A_PAGE = (250, 20)  # and the record of the headline is a page, as each chapter is that it leaves to itself.
 
 FILES = {
     "lower/specs/Numbers.antt": """
@@ -224,10 +219,7 @@ def made_up(check: Check) -> None:
         for name in SCRIPTS:
             shutil.copy(f"{ROOT}/{name}", f"{root}/{name}")
         for name, text in FILES.items():
-            path = f"{root}/crates/{name}"
-            os.makedirs(os.path.dirname(path), exist_ok=True)
-            with open(path, "w", encoding="utf-8") as file:
-                file.write(text.lstrip())
+            put_text(f"{root}/crates/{name}", text.lstrip())
         for words, names in READ.items():
             said, status = run(root, words)
             found = re.findall(r"^\w+ +\S+:\d+  (\S+)$", said, re.M)
@@ -256,16 +248,23 @@ def of_project(check: Check) -> None:
     for path, name in sorted(project.unknown):
         print(f"{os.path.relpath(path, ROOT)}: {name} has no definition")
     check.count(not project.unknown, "names have no definition")
-    said, status = run(ROOT, (*LISTEN, "--most", *map(str, MOST)))
-    counts = re.search(r"^(\d+) definitions in (\d+) files", said, re.M)
-    there = (int(counts[1]), int(counts[2])) if counts else (0, 0)
-    check.count(status == 0, f"{' '.join(LISTEN)}: {there[0]} definitions in {there[1]} files, status {status}")
-    check.count(there[0] >= LEAST[0] and there[1] >= LEAST[1], f"{' '.join(LISTEN)}: but {there[0]} in {there[1]}")
-    pages: list[tuple[str, ...]] = [(*it, "--but", *CHAPTERS) for it in RECORDS]
-    pages += [(it, "--but", *(other for other in CHAPTERS if other != it)) for it in CHAPTERS]
-    for words in pages:
-        said, status = run(ROOT, (*words, *A_PAGE))
-        check.count(status == 0, f"{' '.join(words)}: {re.findall('^.* definitions in .*$', said, re.M)}, status {status}")
+    kept = ratchet.kept_in(ratchet.text_of(ratchet.KEPT)) or {}
+    for page in (*RECORDS, *CHAPTERS, WHOLE, ENDS):
+        said, status = run(ROOT, words_of(page))
+        counts = re.search(r"^(\d+) definitions in (\d+) files", said, re.M)
+        there = (int(counts[1]), int(counts[2])) if counts else (0, 0)
+        wanted = (kept.get(f"pages/{page.title}/definitions"), kept.get(f"pages/{page.title}/files"))
+        check.count((there, status) == (wanted, 0), f"{page.title}: {there}, status {status}, and {ratchet.KEPT} has {wanted}")
+        if page in (WHOLE, ENDS):
+            check.count(there[0] >= LEAST[0] and there[1] >= LEAST[1], f"{page.title}: but {there}")
+        else:
+            check.count(there[0] <= A_PAGE[0] and there[1] <= A_PAGE[1], f"{page.title}: {there} is more than a page")
+
+
+def words_of(page: Page) -> tuple[str, ...]:
+    """What dev/reads is told to print a page."""
+    closed = [it.name for it in CHAPTERS if it != page] if page.is_record or page in CHAPTERS else []
+    return (page.name, *(("--clause", page.clause) if page.clause else ()), *(("--but", *closed) if closed else ()))
 
 
 def main() -> None:

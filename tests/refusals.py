@@ -7,16 +7,18 @@ import shutil
 import subprocess
 import sys
 import tempfile
+from collections.abc import Callable, Iterable, Sequence
 
 ROOT = os.path.dirname(os.path.dirname(os.path.abspath(__file__)))
 sys.path.insert(0, os.path.join(ROOT, "dev"))
 
 import with_scripts  # (in front of what stands there, and of what an older Python can't read)
-from book_rules import Book
 from gikvand import journals
 from gikvand.journals import Entry
-from gikvand.rules import Judged, told
-from replay_rules import Replayer
+from gikvand.words import sure
+from oracle.book_rules import Book
+from oracle.replay_rules import Replayer
+from oracle.session_rules import Judged, told
 from venues import COUNTS, PATIENCE, TRIES, VENUED, Trouble, Venue, free_port, kill_all, message, need_programs, order
 from venues import printed, replay
 
@@ -27,8 +29,10 @@ MOST_CALLS = 10_000  # A bound for a test that goes wrong.
 EDGE = 96  # Of a sample, so many of the first calls and of the last ones are refused one by one,
 STEP = 24  # and of those between them one of so many.
 
+Came = tuple[int, bytes, str]  # How a program ended: its status, and what it wrote.
 
-def orders(first, count):
+
+def orders(first: int, count: int) -> list[bytes]:
     """Messages of so many orders of C1 behind a Logon, by turns a buy and a sell at one price."""
     return [message(1, 2 + at, "D", order(first + at, 1 + (first + at) % 2, 10, 50)) for at in range(count)]
 
@@ -36,42 +40,42 @@ def orders(first, count):
 class Refusal:
     """A call that is refused to a program, and the journal of that program, in a folder of their own."""
 
-    def __init__(self, library, folder, group, at, how):
+    def __init__(self, library: str, folder: str, group: str, at: int, how: str) -> None:
         self.journal, self.told, self.how = os.path.join(folder, "venue.journal"), os.path.join(folder, "told"), how
         self.set = {"LD_PRELOAD": library, "REFUSE": group, "REFUSE_AT": str(at), "REFUSE_HOW": how, "REFUSE_TOLD": self.told}
 
-    def environment(self):
+    def environment(self) -> dict[str, str]:
         """The environment of a program to which it is refused."""
         if os.path.exists(self.told):
             os.remove(self.told)
         return {**os.environ, **self.set}
 
-    def came(self):
+    def came(self) -> str | None:
         """The name of the call that was refused, or None where the program made fewer."""
         name = contents(self.told)
-        return name and name.decode()
+        return name.decode() if name else None
 
-    def noted(self):
+    def noted(self) -> list[tuple[str, str, str]]:
         """The calls to the device that were noted, where that is how: each the call's name, the file's beside the journal,
         and what it has more."""
         calls = (line.split(" ") for line in (contents(self.told) or b"").decode().splitlines())
-        return [(name, self.beside(path), more) for name, path, more in calls if self.beside(path)]
+        return [(name, beside, more) for name, path, more in calls if (beside := self.beside(path))]
 
-    def beside(self, path):
+    def beside(self, path: str) -> str | None:
         """The name of a file beside the journal, or of their folder; of any other None."""
         name = os.path.relpath(path, os.path.dirname(self.journal)) if os.path.isabs(path) else "../"
         return None if name.startswith("../") else name
 
-    def ran(self, words, data=b""):
+    def ran(self, words: list[str], data: bytes = b"") -> Came:
         """Runs a program with it to its end: its status, and what it wrote."""
         return ran(words, data, self.environment())
 
-    def serve(self, data):
+    def serve(self, data: bytes) -> Came:
         """The same of `venued -` with this input."""
         return self.ran(standard(self.journal), data)
 
 
-def ran(words, data=b"", environment=None):
+def ran(words: list[str], data: bytes = b"", environment: dict[str, str] | None = None) -> Came:
     """Runs a program to its end: its status, and what it wrote."""
     try:
         it = subprocess.run(words, input=data, env=environment, capture_output=True, timeout=PATIENCE)
@@ -80,12 +84,12 @@ def ran(words, data=b"", environment=None):
     return it.returncode, it.stdout, it.stderr.decode()
 
 
-def standard(journal):
+def standard(journal: str) -> list[str]:
     """The words of `venued -` on this journal."""
     return [VENUED, "-", journal, "1", "ABC"]
 
 
-def greatest(holds):
+def greatest(holds: Callable[[int], object]) -> int:
     """The greatest number, from 1 on, for which something holds that holds for all below it too; 0 where it holds for none."""
     some, none = 0, 1
     while holds(none):
@@ -96,12 +100,12 @@ def greatest(holds):
     return some
 
 
-def sample(count):
+def sample(count: int) -> list[int]:
     """The numbers of a sample of so many calls."""
     return [at for at in range(1, count + 1) if at <= EDGE or count - at < EDGE or at % STEP == 0]
 
 
-def compiled(source, out, *more):
+def compiled(source: str, out: str, *more: str) -> None:
     """Compiles a file of the project with cc."""
     words = ["cc", "-O1", "-o", out, os.path.join(ROOT, source), *more]
     built = subprocess.run(words, capture_output=True, text=True)
@@ -113,12 +117,12 @@ class Sweeps:
     """What refuses calls, compiled into this folder, and which calls were refused so far, with how many of each name.
     All calls are, or a sample of those for memory."""
 
-    def __init__(self, folder, is_sample=False):
+    def __init__(self, folder: str, is_sample: bool = False) -> None:
         self.folder, self.library, self.is_sample = folder, os.path.join(folder, "refusals.so"), is_sample
-        self.met = collections.Counter()
+        self.met: collections.Counter[str] = collections.Counter()
         compiled("tests/refusals.c", self.library, "-shared", "-fPIC", "-ldl")
 
-    def refused(self, check, group, at, how):
+    def refused(self, check: Callable[[Refusal], object], group: str, at: int, how: str) -> str | None:
         """Lets a check run with this call refused: its name, or None where the program made fewer."""
         with tempfile.TemporaryDirectory(dir=self.folder) as folder:
             refusal = Refusal(self.library, folder, group, at, how)
@@ -128,11 +132,11 @@ class Sweeps:
                 raise Trouble(f"{group} {how}, call {at} ({refusal.came() or 'not made'}): {why}") from why
             return refusal.came()
 
-    def sweep(self, check, group, how, together=4, each=False):
+    def sweep(self, check: Callable[[Refusal], object], group: str, how: str, together: int = 4, each: bool = False) -> None:
         """Refuses the first call, the second, and so on until none is left; so many programs run side by side. Where all
         are a sample, each call is refused only if that is asked for."""
         if self.is_sample and group == "memory" and not each:
-            chosen = sample(greatest(lambda at: self.refused(check, group, at, how)))
+            chosen: Sequence[int] = sample(greatest(lambda at: self.refused(check, group, at, how)))
         else:
             chosen = range(1, MOST_CALLS)
         with concurrent.futures.ThreadPoolExecutor(together) as pool:
@@ -144,13 +148,13 @@ class Sweeps:
         if MOST_CALLS - 1 in chosen:
             raise Trouble(f"expected an end of the calls came more than {MOST_CALLS}")
 
-    def said(self):
+    def said(self) -> str:
         """The calls that were refused, in words."""
         names = ", ".join(f"{count} {name}" for name, count in sorted(self.met.items()))
         return f"{sum(self.met.values())} calls refused ({names})"
 
 
-def contents(name):
+def contents(name: str) -> bytes | None:
     """The bytes of a file, or None where there is none."""
     if not os.path.exists(name):
         return None
@@ -158,7 +162,12 @@ def contents(name):
         return file.read()
 
 
-def put(name, data):
+def kept(name: str) -> bytes:
+    """The bytes of a file that is there."""
+    return sure(contents(name))
+
+
+def put(name: str, data: bytes | None) -> None:
     """Makes a file of these bytes in the place of what was there; of None, none."""
     for other in (name, f"{name}.new", f"{name}.stop"):
         if os.path.exists(other):
@@ -168,12 +177,12 @@ def put(name, data):
             file.write(data)
 
 
-def journal_of(messages, version=journals.MADE):
+def journal_of(messages: Iterable[bytes], version: int = journals.MADE) -> bytes:
     """The bytes of a journal of these messages of C1, each in a block of its own."""
     return journals.header(version) + journals.in_blocks(version, [Entry(1, it) for it in messages], 1) + journals.CLOSED
 
 
-def after(count):
+def after(count: int) -> Book:
     """The book behind so many of the orders."""
     book = Book()
     Judged(LOGON + b"".join(orders(1, count)), book)
@@ -181,7 +190,7 @@ def after(count):
 
 
 @functools.lru_cache(maxsize=None)
-def answers(first, count):
+def answers(first: int, count: int) -> list[bytes]:
     """What a session is told of so many orders, from the one of this number on: its Logon's answer, and each order's."""
     judged = Judged(LOGON + b"".join(orders(first, count)), after(first - 1))
     whole = [b"".join(told(kind, 1, when, own) for kind, when, own, _ in judged.session.answers)]
@@ -191,7 +200,7 @@ def answers(first, count):
     return whole
 
 
-def answered(out, first, count):
+def answered(out: bytes, first: int, count: int) -> int:
     """How many of these orders a session was told of, in whole or in part, by what came out; nothing else may have."""
     whole = answers(first, count)
     if not b"".join(whole).startswith(out):
@@ -202,7 +211,7 @@ def answered(out, first, count):
     return found
 
 
-def check_history(journal, least, most):
+def check_history(journal: str, least: int, most: int) -> int:
     """The journal holds a beginning of the orders, no less and no more than so many: how many."""
     lines, (commands, _) = replay(journal, "C1") if os.path.exists(journal) else ([], (0, 0))
     if not least <= commands <= most:
@@ -213,12 +222,12 @@ def check_history(journal, least, most):
 
 
 @functools.lru_cache(maxsize=None)
-def history(count):
+def history(count: int) -> list[str]:
     """What venue-replay prints of so many of the orders, line by line."""
     return Judged(LOGON + b"".join(orders(1, count)), Book()).lines()
 
 
-def by_rules(data, *words):
+def by_rules(data: bytes, *words: str) -> tuple[Came, dict[str, bytes]]:
     """What the rules say of these words on a journal J: how venue-replay ends with ample memory and a device that works,
     and the files then."""
     files = {"J": data}
@@ -226,20 +235,20 @@ def by_rules(data, *words):
     return (outcome.status, outcome.out.encode(), outcome.err), files
 
 
-def listens(refusal, gateways):
+def listens(refusal: Refusal, gateways: int) -> tuple[Venue | None, str, Came]:
     """A venue to which a call is refused, and its first line, if it is ready; else None, and how it ended."""
     for _ in range(TRIES):
         venue = Venue(free_port(gateways), refusal.journal, gateways, env=refusal.environment())
         line = venue.out.next(LONG)
         if COUNTS.fullmatch(line or ""):
-            return venue, line
+            return venue, line or "", (0, b"", "")
         fault = venue.err.next(LONG) or ""
         if not fault.startswith("venued: cannot listen"):
-            return None, (venue.process.wait(PATIENCE), (line or "").encode(), f"{fault}\n")
+            return None, "", (venue.process.wait(PATIENCE), (line or "").encode(), f"{fault}\n")
     raise Trouble(f"in {TRIES} tries no {gateways} ports stayed free")
 
 
-def run_tests(name, tests, is_sample=False):
+def run_tests(name: str, tests: Sequence[Callable[[Sweeps], str]], is_sample: bool = False) -> None:
     """Runs these tests, each in a folder of its own, and prints what they came to; the status is 1 where one failed."""
     if not shutil.which("cc"):
         print(f"{name}: cc isn't installed, which compiles tests/refusals.c: nothing was tried\n0 passed, 0 failed")

@@ -2,7 +2,8 @@
 import os
 import subprocess
 
-from replay_rules import Outcome
+from checks import contents, put
+from oracle.replay_rules import Outcome
 from venues import PATIENCE, REPLAY
 
 MEMORY = "/dev/shm"
@@ -31,8 +32,7 @@ class Program:
         for name in os.listdir(self.folder):
             os.remove(self.place(name))
         for name, data in files.items():
-            with open(self.place(name), "wb") as file:
-                file.write(data)
+            put(self.place(name), data)
 
     def drop(self, name: str) -> None:
         """Deletes a file, if it is there."""
@@ -49,8 +49,4 @@ class Program:
 
     def files(self) -> dict[str, bytes]:
         """What stands in the folder."""
-        found = {}
-        for name in sorted(os.listdir(self.folder)):
-            with open(self.place(name), "rb") as file:
-                found[name] = file.read()
-        return found
+        return {name: contents(self.place(name)) for name in sorted(os.listdir(self.folder))}

@@ -3,31 +3,42 @@ import os
 import signal
 import subprocess
 import sys
+from typing import TypeVar
 
 from gikvand.words import sure
 from made_journals import TOOLS, contents, untimed
 from venues import PATIENCE, Lines, Trouble, await_that, running
 
+T = TypeVar("T", bound="Tool")
 
-class Follower:
-    """`gikvand follow` as a program of its own, with Python's own library alone, and in a session of its own, as a service has:
-    else it would share its turns at the processor with the venue. It ends with the test, however that ends."""
 
-    def __init__(self, *words: str) -> None:
-        command = [sys.executable, "-S", "-m", "gikvand", "follow", *words]
-        self.process = subprocess.Popen(command, stdout=subprocess.PIPE, stderr=subprocess.PIPE, text=True,
-                                        start_new_session=True, env={**os.environ, "PYTHONPATH": TOOLS})
+class Tool:
+    """A command of gikvand as a program of its own. It ends with the test, however that ends."""
+
+    def __init__(self, *command: str, is_apart: bool = False, **settings: str) -> None:
+        self.process = subprocess.Popen([sys.executable, *command], stdout=subprocess.PIPE, stderr=subprocess.PIPE, text=True,
+                                        start_new_session=is_apart, env={**os.environ, "PYTHONPATH": TOOLS, **settings})
         running.append(self)
 
     def kill(self) -> None:
         self.process.kill()
         self.process.wait()
 
-    def has_caught_up(self) -> "Follower":
+    def has_begun(self: T) -> T:
         """Waits for its first line."""
         if not sure(self.process.stdout).readline():
-            raise Trouble(f"the follower ended: {self.process.communicate()[1]}")
+            raise Trouble(f"it ended: {self.process.communicate()[1]}")
         return self
+
+
+class Follower(Tool):
+    """`gikvand follow`, with Python's own library alone, and in a session of its own, as a service has: else it would share its
+    turns at the processor with the venue."""
+
+    def __init__(self, *words: str) -> None:
+        super().__init__("-S", "-m", "gikvand", "follow", *words, is_apart=True)
+
+    has_caught_up = Tool.has_begun
 
     def end(self, number: int) -> tuple[int, str, str]:
         """Its status, its last line and what it said on standard error, where it gets this signal."""
@@ -41,19 +52,12 @@ def await_copy(path: str, size: int) -> None:
                lambda: os.path.exists(path) and os.path.getsize(path) >= size and contents(path)[size - 1:] == b"\0")
 
 
-class Running:
-    """`gikvand board` as a program of its own. It ends with the test, however that ends."""
+class Running(Tool):
+    """`gikvand board`, whose lines are read as they come."""
 
     def __init__(self, *words: str, **settings: str) -> None:
-        command = [sys.executable, "-m", "gikvand", "board", *words]
-        self.process = subprocess.Popen(command, stdout=subprocess.PIPE, stderr=subprocess.PIPE, text=True,
-                                        env={**os.environ, "PYTHONPATH": TOOLS, **settings})
-        running.append(self)
-        self.out, self.err = Lines(self.process.stdout), Lines(self.process.stderr)
-
-    def kill(self) -> None:
-        self.process.kill()
-        self.process.wait()
+        super().__init__("-m", "gikvand", "board", *words, is_apart=False, **settings)
+        self.out, self.err = Lines(sure(self.process.stdout)), Lines(sure(self.process.stderr))
 
     def address(self) -> str:
         """The address that its first line says."""

@@ -16,7 +16,7 @@ ROOT = os.path.dirname(os.path.dirname(os.path.abspath(__file__)))
 sys.path.insert(0, os.path.join(ROOT, "dev"))
 
 import with_scripts  # (in front of what stands there, and of what an older Python can't read)
-from checks import Check, printed
+from checks import Check, change, printed, put_text
 
 SCRIPTS = [*(f"dev/{it}" for it in ("surface", "exports.py", "callers.py", "below.py", "antt.py", "contracts.py",
                                     "with_scripts.py")),
@@ -283,19 +283,11 @@ def made(root: str) -> None:
         shutil.copy(f"{ROOT}/{name}", f"{root}/{name}")
     os.mkdir(f"{root}/docs")
     for name, text in FILES.items():
-        os.makedirs(os.path.dirname(f"{root}/{name}"), exist_ok=True)
-        with open(f"{root}/{name}", "w", encoding="utf-8") as file:
-            file.write(text.lstrip())
+        put_text(f"{root}/{name}", text.lstrip())
 
 
 def changed(root: str, name: str, old: str, new: str) -> None:
-    path = f"{root}/crates/lower/src/{name}"
-    with open(path, encoding="utf-8") as file:
-        text = file.read()
-    if text.count(old) != 1:
-        raise ValueError(f"{name} has {old} {text.count(old)} times")
-    with open(path, "w", encoding="utf-8") as file:
-        file.write(text.replace(old, new))
+    change(f"{root}/crates/lower/src/{name}", old, new)
 
 
 def told(check: Check, root: str) -> None:

@@ -17,8 +17,9 @@ from typing import NamedTuple
 import pytest
 
 import crates
-from checks import ROOT
+from checks import ROOT, put_text
 from script_modules import loaded
+from venues import Late, in_some_try
 
 pytestmark = pytest.mark.quick
 
@@ -39,10 +40,11 @@ if __name__ == "__main__":
 ELSEWHERE = ("rt", "chromium", "glusterd", "valgrind", "apt-get")  # Programs of the path.
 BUILT = ("crates/venued/out/venued", "crates/venue_replay/out/venue_replay", "crates/venue_events/out/venue_events",
          "crates/bench/out/bench", "edge/out/gikvand-edge", "edge/out/tradeclient", "edge/out/FIX44.xml",
-         "crates/edge_frames_c/out/libedge_frames_c.a")
+         "crates/edge_frames_c/out/libedge_frames_c.a", "feed/out/gikvand-feed")
 # Executables that aren't of the full check, or are called by one.
-NO_PARTS = {"dev/play", "dev/bench", "dev/bench-tools", "dev/bench-venue", "dev/costs", "dev/kill-and-restart", "dev/reads",
-            "tests/replay_rules.py", "tests/events_rules.py", "edge/certify", "edge/speed"}
+NO_PARTS = {"dev/play", "dev/images", "dev/bench", "dev/bench-tools", "dev/bench-venue", "dev/costs", "dev/kill-and-restart", "dev/reads",
+            "tests/oracle/replay_rules.py", "tests/oracle/events_rules.py", "edge/certify", "edge/speed", "edge/try",
+            "feed/servers", "feed/speed"}
 
 
 def checker() -> ModuleType:
@@ -53,12 +55,12 @@ def checker() -> ModuleType:
 def counted() -> dict[str, int]:
     """The parts that have a last line, each with its least count."""
     module = checker()
-    return {it.name: it.least for it in module.PARTS if it.name not in (module.SETUP, module.MEASURES)}
+    return {it.name: it.least for it in module.PARTS if it.name not in module.SETUPS}
 
 
 def every() -> int:
-    """How many pass where all do: the least counts, and dev/measures."""
-    return sum(counted().values()) + 1
+    """How many pass where all do: the least counts."""
+    return sum(counted().values())
 
 
 def passes(count: int) -> str:
@@ -96,15 +98,12 @@ def ran(*words: str, by: str = "scripts/check", without: tuple[str, ...] = (), *
         if program not in without:
             given, does = given.replace("{cores}", '"*"'), others.get(it.name, passes(max(1, it.least)))
             stubs.setdefault(path, (program, []))[1].append(f'case "$*" in "{given}") {does};; esac')  # (one may be two parts)
-    for path in [*stubs, *BUILT, *MODULES, "scripts/check", ".ci/run", A_PLAY]:
+    for path in [*BUILT, *MODULES, "scripts/check", ".ci/run"]:
         os.makedirs(os.path.dirname(os.path.join("tree", path)), exist_ok=True)
     for path, (name, texts) in stubs.items():
-        with open(os.path.join("tree", path), "w", encoding="ascii") as file:
-            file.write(PART.format(name=name, asked=asked, does="\n".join(texts)))
-        os.chmod(file.name, 0o755)
+        put_text(os.path.join("tree", path), PART.format(name=name, asked=asked, does="\n".join(texts)), 0o755)
     for path, text in (("modules/pytest.py", PYTEST), (A_PLAY, "")):
-        with open(os.path.join("tree", path), "w", encoding="ascii") as file:
-            file.write(text)
+        put_text(os.path.join("tree", path), text)
     for path in BUILT:
         if path not in without:
             shutil.copy("/bin/true", os.path.join("tree", path))
@@ -112,7 +111,7 @@ def ran(*words: str, by: str = "scripts/check", without: tuple[str, ...] = (), *
         shutil.copy(source, os.path.join("tree", path))
         os.chmod(os.path.join("tree", path), 0o755)
     kept = {name: value for name, value in os.environ.items()
-            if name not in ("VENUED", "VENUE_REPLAY", "VENUE_EVENTS", "GIKVAND_EDGE", "BENCH", "CHROMIUM")}
+            if name not in ("VENUED", "VENUE_REPLAY", "VENUE_EVENTS", "GIKVAND_EDGE", "GIKVAND_FEED", "BENCH", "CHROMIUM")}
     path = f"{os.path.abspath('tree/path')}:{os.path.dirname(sys.executable)}:/usr/bin:/bin"
     it = subprocess.run(["bash" if by == ".ci/run" else sys.executable, f"tree/{by}", *words], capture_output=True, text=True,
                         timeout=PATIENCE, env={**kept, "PATH": path, "PYTHONPATH": os.path.abspath("tree/modules")}, stdin=subprocess.DEVNULL)
@@ -134,21 +133,24 @@ def test_all_pass() -> None:
     came = ran(by=".ci/run")
     assert (came.status, came.last, came.again()) == (0, f"{every()} passed, 0 failed", [])
     parts = checker().PARTS
-    ends = [line.split()[0] for line in came.lines[:-2]]  # (a line a part, and what it says is kept)
+    ends = [line.split()[0] for line in came.lines[1:-2]]  # (a line a part, and what it says is kept)
     for waits in (True, False):
         names = [it.name for it in parts if it.has("waits") == waits]
         assert [it for it in came.called if it in commands(set(names))] == commands(set(names))
         assert [it for it in ends if it in names] == names
     assert (sorted(came.called), len(ends)) == (sorted(commands()), len(parts))
     assert said_by("users") == ["something", f"{counted()['users']} passed, 0 failed"]
+    assert [re.search(r"(?:check: |; )\d+ cores; .* of memory and .* of disk are free$", came.lines[it]) is None for it in (0, -2)] == [False] * 2
 
 
 def test_those_that_wait() -> None:
-    """A part that waits runs beside those behind it, and one behind the other of its kind; one of the edge is behind the edge's setup."""
-    late = "for it in $(seq 200); do [ -e users ] && break; sleep 0.1; done; [ -e users ] || exit 1; sleep 0.5; touch members"
+    """A part that waits runs beside those behind it, and one behind the other of its kind; one of the edge or the feed is behind
+    its setup."""
+    late = "for it in $(seq 900); do [ -e users ] && break; sleep 0.1; done; [ -e users ] || exit 1; sleep 0.5; touch members"
     came = ran(by=".ci/run", without=(), members=f"{late}; {passes(counted()['members'])}", users=f"touch users; {passes(counted()['users'])}",
                held_ports=f"[ -e members ] || exit 1; {passes(counted()['held_ports'])}",
-               edge=f"[ -e setup ] || exit 1; {passes(counted()['edge'])}", **{checker().SETUP: "sleep 1; touch setup"})
+               **{it: f"[ -e {it}-setup ] || exit 1; {passes(counted()[it])}" for it in ("edge", "feed")},
+               **{it: f"sleep 1; touch {it}" for it in checker().SETUPS})
     assert (came.status, came.last, came.again()) == (0, f"{every()} passed, 0 failed", [])
     came = ran(by=".ci/run", edge=f"sleep 1; echo '{counted()['edge']} passed, 1 failed'; exit 1")
     assert (came.status, came.last) == (1, f"{every()} passed, 1 failed")
@@ -161,15 +163,40 @@ def said_by(part: str) -> list[str]:
 
 
 def test_a_part_that_takes_long(capsys: pytest.CaptureFixture, monkeypatch: pytest.MonkeyPatch) -> None:
-    """Of a part that takes long the newest line is shown from time to time, and at its end all of its lines are there."""
+    """Of a part that takes long the newest line is shown from time to time. At its end all of its lines are there, and what it took."""
+    monkeypatch.setattr(checker(), "SAID", os.path.abspath("said"))
+    in_some_try(lambda _: takes_long(capsys), "a_part_that_takes_long")
+
+
+def takes_long(capsys: pytest.CaptureFixture) -> None:
+    """Runs such a part. Where this process stands still meanwhile it has nothing to show."""
+    module = checker()
+    counts = "i=0; while [ $i -lt 300000 ]; do i=$((i + 1)); done"  # By a process of its own.
+    slow = put_text("slow", f"#!/bin/sh\necho first\nsh -c '{counts}'\nsleep 2\necho '3 passed, 0 failed'\n", 0o755)
+    ended = module.Check().ran(module.Part("slow", slow, "quick", 3), 1, 0.5)
+    assert (ended.status, ended.lines, ended.seconds >= 2) == (0, ["first", "3 passed, 0 failed"], True)
+    assert 0.02 <= ended.processor < ended.seconds
+    shown = capsys.readouterr().out.splitlines()
+    if f"{'slow':18}  0 minutes; its newest line: first" not in shown:
+        raise Late(f"expected its newest line came {shown}")
+
+
+def test_the_longest_first(monkeypatch: pytest.MonkeyPatch) -> None:
+    """Those begin first that took longest the last time. What hasn't run yet counts by its mark."""
     module = checker()
     monkeypatch.setattr(module, "SAID", os.path.abspath("said"))
-    with open("slow", "w", encoding="ascii") as file:
-        file.write("#!/bin/sh\necho first\nsleep 2\necho '3 passed, 0 failed'\n")
-    os.chmod("slow", 0o755)
-    ended = module.Check().ran(module.Part("slow", os.path.abspath("slow"), "quick", 3), 1, 0.5)
-    assert (ended.status, ended.lines, ended.seconds >= 2) == (0, ["first", "3 passed, 0 failed"], True)
-    assert f"{'slow':18}  0 minutes; its newest line: first" in capsys.readouterr().out.splitlines()
+    monkeypatch.setattr(module, "CORES", 1)
+    does = put_text("does", '#!/bin/sh\necho "$1" >>asked\necho "1 passed, 0 failed"\n', 0o755)
+    monkeypatch.setattr(module, "ROOT", os.getcwd())
+    parts = [module.Part(name, f"{does} {name}", marks, 1) for name, marks in (
+        ("one", "quick"), ("two", "slow"), ("three", "quick"), ("four", "slow"), ("five", "quick"))]
+    for name, seconds in (("three", "70.5"), ("four", "2"), ("five", "no number")):
+        put_text(f"said/{name}.seconds", seconds)
+    check = module.Check()
+    check.run_beside(parts, False)
+    with open("asked", encoding="ascii") as file:
+        assert file.read().split() == ["three", "two", "four", "one", "five"]
+    assert (check.passed, check.failed, module.took(parts[2]) < 70) == (5, 0, True)
 
 
 EVERY_KIND = pytest.mark.parametrize("part", ("users", "proofs", "siege"))  # By pytest, by a program of the path, and by one of the tree.
@@ -195,14 +222,49 @@ def test_parts_that_fail(part: str, does: str, passed: int | str, failed: int) -
 
 
 def test_a_setup_that_fails() -> None:
-    """Where edge/setup ends badly that counts, and no part of the edge is called; so counts dev/measures."""
+    """Where edge/setup ends badly that counts, and no part of the edge is called, and so with the feed's; dev/measures counts as any
+    part."""
     module = checker()
-    came = ran(by=".ci/run", without=(), **{module.SETUP: "exit 1"})
-    behind = {it.name for it in module.PARTS if "edge" in it.name or it.name == "framer"} - {module.SETUP}
-    assert (came.status, came.last) == (1, f"{every() - sum(counted()[it] for it in behind)} passed, 1 failed")
-    assert sorted(came.called) == sorted(set(commands()) - set(commands(behind)))
-    came = ran(by=".ci/run", without=(), **{module.MEASURES: "echo bad; exit 1"})
-    assert (came.status, came.last) == (1, f"{every() - 1} passed, 1 failed")
+    more: dict[str, set[str]] = {"edge-setup": {"framer"}}
+    for setup in module.SETUPS:
+        came = ran(by=".ci/run", without=(), **{setup: "exit 1"})
+        behind = more.get(setup, set()) | {it.name for it in module.PARTS if setup.split("-")[0] in it.name} - {setup}
+        assert (came.status, came.last) == (1, f"{every() - sum(counted()[it] for it in behind)} passed, 1 failed")
+        assert sorted(came.called) == sorted(set(commands()) - set(commands(behind)))
+    came = ran(by=".ci/run", without=(), measures="echo bad; exit 1")
+    assert (came.status, came.last) == (1, f"{every() - counted()['measures']} passed, 1 failed")
+
+
+def test_proofs_that_fail() -> None:
+    """Where the proofs fail and make no programs, no part is called that takes one, and what is shown at the end are the prover's
+    reasons and last lines. Where the programs are there all others are called."""
+    fails = f"echo x NOT PROVED; seq 100; echo '{counted()['proofs']} passed, 1 failed'; exit 1"
+    module = checker()
+    cases: list[tuple[tuple[str, ...], set[str]]] = [(BUILT[:1], {"built"}), (BUILT[:4], {"built", "bench"}), ((), set())]
+    for without, marks in cases:
+        came = ran(by=".ci/run", without=without, proofs=fails)
+        behind = {it.name for it in module.PARTS if marks.intersection(it.marks.split())}
+        assert (came.status, came.last) == (1, f"{every() - sum(counted()[it] for it in behind)} passed, 1 failed")
+        assert sorted(came.called) == sorted(set(commands()) - set(commands(behind)))
+        assert {it.split()[0] for it in came.lines if "  is left out: what it takes couldn't be made (" in it} == behind
+        assert came.again()[:3] == ["== what failed has said last: rt ci", "x NOT PROVED", "62"]
+
+
+@pytest.mark.skipif(os.geteuid() != 0, reason="a network of its own is for root")
+def test_a_network_of_its_own() -> None:
+    """Each part with venues has one, in which the system's own address is there, and a part that installs packages has none."""
+    if subprocess.run(["unshare", "--net", "ip", "link", "set", "lo", "up"], stderr=subprocess.DEVNULL).returncode:
+        pytest.skip("no network of its own can be had")
+    sees = "readlink /proc/self/ns/net >net-{name}; ip -o addr show up >at-{name}; {passes}"
+    names = ("users", "members", "package", "known_bad")
+    ran(by=".ci/run", without=(), **{it: sees.format(name=it, passes=passes(counted()[it])) for it in names})
+    networks = []
+    for name in names:
+        with open(f"tree/net-{name}", encoding="ascii") as net, open(f"tree/at-{name}", encoding="ascii") as at:
+            networks.append(net.read().strip())
+            assert (name, "inet 127.0.0.1/8" in at.read()) == (name, True)
+    ours = os.readlink("/proc/self/ns/net")
+    assert (len(set(networks[:2])), ours in networks[:2], networks[2:]) == (2, False, [ours] * 2)
 
 
 @EVERY_KIND
@@ -225,13 +287,13 @@ def test_parts_of_fewer_tests() -> None:
     fewer = {name: passes(least - 1) for name, least in counted().items()}
     for words, by, names in (((), ".ci/run", list(counted())), ((), "scripts/check", [it for it in counted() if not is_long(it)])):
         came = ran(*words, by=by, without=(), **fewer)
-        passed = sum(counted()[it] - 1 for it in names) + 1
+        passed = sum(counted()[it] - 1 for it in names)
         assert (by, came.status, came.last) == (by, 1, f"{passed} passed, {len(names)} failed")
         for it in names:
             said = f"{counted()[it] - 1} of its tests were tried, and it has {counted()[it]} at least"
             assert (by, it, f"{it}: {said}" in came.again()) == (by, it, True)
     came = ran(by=".ci/run", users=f"echo '{counted()['users'] - 1} passed, 1 failed'; exit 1")
-    assert (came.status, came.last) == (1, f"{sum(counted().values())} passed, 1 failed")
+    assert (came.status, came.last) == (1, f"{every() - 1} passed, 1 failed")
     assert [it for it, least in counted().items() if least < 1] == []
 
 
@@ -244,7 +306,7 @@ def test_side_by_side() -> None:
     shown at the end."""
     short = {it.name for it in checker().PARTS if not it.has("long")}
     came = ran()
-    assert (came.status, came.last) == (0, f"{sum(counted()[it] for it in short - {checker().MEASURES}) + 1} passed, 0 failed")
+    assert (came.status, came.last) == (0, f"{sum(counted()[it] for it in short)} passed, 0 failed")
     assert sorted(came.called) == sorted(commands(short, 1))
     least = counted()["wrong_edges"]
     came = ran("users", "wrong_edges", wrong_edges=f"echo why it fails; echo '{least} passed, 2 failed'; exit 1")
@@ -261,7 +323,7 @@ def test_nothing_is_built() -> None:
     the benchmark it says what is left out, and tries all others."""
     for without in (BUILT, BUILT[:1], BUILT[2:3]):
         came = ran(without=without)
-        wanted = [f"check: {it} isn't built: {'edge/setup --tests' if it.startswith('edge/') else 'scripts/build'} builds it"
+        wanted = [f"check: {it} isn't built: {f'{it[:4]}/setup --tests' if it.startswith(('edge/', 'feed/')) else 'scripts/build'} builds it"
                   for it in without if not it.startswith(("crates/bench", "crates/edge"))]
         assert (came.status, came.lines, came.err.splitlines(), came.called) == (2, [], wanted, [])
     came = ran("users", without=BUILT[:1])
@@ -299,7 +361,7 @@ def test_words_of_the_check() -> None:
 def test_no_part_is_left_out() -> None:
     """Each test and check that can be called is a part of the full check, or one of those that are no parts. Each module of tests and each
     play is of one part."""
-    listed = subprocess.run(["git", "-C", ROOT, "ls-files", "-s", "tests", "dev", "edge"], capture_output=True, text=True).stdout
+    listed = subprocess.run(["git", "-C", ROOT, "ls-files", "-s", "tests", "dev", "edge", "feed"], capture_output=True, text=True).stdout
     files = {line.split("\t")[1]: line.split()[0] for line in listed.splitlines()}
     programs = {it for it, mode in files.items() if mode == "100755"}
     called = {it.split()[0] for it in commands()} - {"rt", "pytest"}
@@ -321,6 +383,14 @@ def covers(word: str, path: str) -> bool:
     """Whether pytest finds tests in this file by this word."""
     is_one = fnmatch.fnmatch(os.path.basename(path), "test_*.py") and path.startswith(f"{word}/")
     return is_one or fnmatch.fnmatch(path, word)
+
+
+def test_what_the_prover_refuses() -> None:
+    """Git has no links: `rt ci` stops at one before it proves anything, wherever it stands. So it does at a source outside of the crates."""
+    listed = subprocess.run(["git", "-C", ROOT, "ls-files", "-s"], capture_output=True, text=True).stdout.splitlines()
+    assert [it for it in listed if it.startswith("120000")] == []
+    names = [it.split("\t")[1] for it in listed]
+    assert [it for it in names if it.endswith((".rt", ".antt")) and not it.startswith("crates/")] == []
 
 
 def test_least_counts() -> None:

@@ -6,7 +6,7 @@ import sys
 
 import pytest
 
-from checks import ROOT
+from checks import ROOT, put_text
 
 pytestmark = pytest.mark.quick
 
@@ -42,13 +42,6 @@ def test_three():
 SHELL = '#!/bin/bash\neval "$1"\n'
 
 
-def put(name: str, text: str) -> str:
-    with open(name, "w", encoding="ascii") as file:
-        file.write(text)
-    os.chmod(name, 0o755)
-    return os.path.abspath(name)
-
-
 def tried(*words: str, **environment: str) -> tuple[int, str]:
     """How pytest ends on these words, with conftest.py: its status, and its last line."""
     command = [sys.executable, "-m", "pytest", "-q", "-p", "conftest", "-p", "no:cacheprovider", "-c", os.path.join(ROOT, "pyproject.toml"),
@@ -65,12 +58,12 @@ def tried(*words: str, **environment: str) -> tuple[int, str]:
 def test_last_lines(words: list[str], status: int, last: str) -> None:
     """What fails, and what has no fixture, counts as failed; what is skipped doesn't count, and what isn't named by its own name isn't
     tried."""
-    assert tried(put("test_made.py", MODULE), *words) == (status, last)
+    assert tried(put_text("test_made.py", MODULE), *words) == (status, last)
 
 
 def test_what_cannot_be_read() -> None:
     """A module that isn't Python, and words that are none, leave no last line."""
-    for words in ([put("test_made.py", "def test_it(:\n")], ["--nothing"], ["test_that_there_is_not.py"]):
+    for words in ([put_text("test_made.py", "def test_it(:\n")], ["--nothing"], ["test_that_there_is_not.py"]):
         status, last = tried(*words)
         assert status not in (0, 1)
         assert not LAST_LINE.fullmatch(last)
@@ -79,13 +72,13 @@ def test_what_cannot_be_read() -> None:
 def test_folders() -> None:
     """Each test has an empty folder of its own, and nothing of it is left."""
     os.mkdir("folders")
-    assert tried(put("test_made.py", FOLDERS), TMPDIR=os.path.abspath("folders")) == (0, "3 passed, 0 failed")
+    assert tried(put_text("test_made.py", FOLDERS), TMPDIR=os.path.abspath("folders")) == (0, "3 passed, 0 failed")
     assert os.listdir("folders") == []
 
 
 def test_plays() -> None:
     """A play is a test, which fails where dev/play says why, and where the programs aren't built."""
-    shell = put("shell", SHELL)
-    one, two = put("one.play", "run venued 'exit 3'\nstatus 3\n"), put("two.play", "run venued 'exit 3'\nstatus 0\n")
+    shell = put_text("shell", SHELL, 0o755)
+    one, two = put_text("one.play", "run venued 'exit 3'\nstatus 3\n"), put_text("two.play", "run venued 'exit 3'\nstatus 0\n")
     assert tried(one, two, VENUED=shell, VENUE_REPLAY=shell) == (1, "1 passed, 1 failed")
     assert tried(one, VENUED=shell, VENUE_REPLAY="none") == (1, "0 passed, 1 failed")

@@ -23,13 +23,16 @@ import collections
 import fcntl
 import os
 import signal
+from collections.abc import Callable
 
 import pytest
 
 from gikvand import journals
 from gikvand.journals import Entry
-from refusals import FRESH, LOGON, Refusal, answered, answers, by_rules, check_history, contents, journal_of, listens, orders
-from refusals import put, ran, standard
+from gikvand.words import sure
+from refusals import FRESH, LOGON, Came, Refusal, Sweeps, answered, answers, by_rules, check_history, contents, journal_of, listens
+from refusals import kept as kept_in
+from refusals import orders, put, ran, standard
 from venues import REPLAY, Client, Trouble, printed
 
 pytestmark = [pytest.mark.slow, pytest.mark.usefixtures("programs")]
@@ -40,6 +43,8 @@ KILLED = -signal.SIGKILL
 NOT_BEGUN = (1, b"", "venued: journal fault 41\n")
 FAILED = (2, "venued: journal failed\n")
 UNREAD = (1, b"", "venue-replay: journal fault 41\n")
+
+Ends = collections.Counter[tuple[str, int]]  # How a run ended, and what it left, with how often.
 
 
 # What is asked of the device besides reads, call by call, where J is the journal, N a new one, and the point their folder.
@@ -54,17 +59,17 @@ NAMED = ["statx J.new file", "statx J.new name", "statx J name", "rename J.new J
 MADE = ["open J to write", "open J.new to make", *LOCKED, "pwrite J.new 17", "fdatasync J.new", *NAMED, "fdatasync J"]
 
 
-def appended(block, file="J"):
+def appended(block: bytes, file: str = "J") -> list[str]:
     """A block: behind the closed gate all of it but its own gate, and a closed one; then that gate, which opens it."""
     return [f"pwrite {file} {len(block)}", f"fdatasync {file}", f"pwrite {file} 1", f"fdatasync {file}"]
 
 
-def for_new(calls):
+def for_new(calls: list[str]) -> list[str]:
     """The same of a new journal."""
     return [it.replace("J", "N") for it in calls]
 
 
-def check_goes_on(journal, kept):
+def check_goes_on(journal: str, kept: int) -> None:
     """A new start serves one more order behind those that are kept."""
     came = ran(standard(journal), LOGON + b"".join(orders(kept + 1, 1)))
     wanted = (0, b"".join(answers(kept + 1, 1)), "")
@@ -73,7 +78,7 @@ def check_goes_on(journal, kept):
     check_history(journal, kept + 1, kept + 1)
 
 
-def check_version(journal, before):
+def check_version(journal: str, before: bytes | None) -> None:
     """A journal has the header that it had, or that of an empty one which venued makes."""
     came, before = contents(journal) or FRESH, before or FRESH
     wanted = before[:len(journals.header(journals.version_of(before)))]
@@ -81,7 +86,7 @@ def check_version(journal, before):
         raise Trouble(f"expected a journal that begins with {wanted.hex()} came {came[:16].hex()}")
 
 
-def is_as_it_was(journal, before):
+def is_as_it_was(journal: str, before: bytes | None) -> bool:
     """Whether a program that hadn't begun left a journal as it was. A missing one may have been made, and one of version
     3 may have another snapshot."""
     now = contents(journal)
@@ -89,10 +94,10 @@ def is_as_it_was(journal, before):
         return True
     if before is None or journals.version_of(before) < journals.WITH_SNAPSHOTS:
         return False
-    return journals.read(now).entries == journals.read(before).entries
+    return journals.read(sure(now)).entries == journals.read(before).entries
 
 
-def check_ended(how, came, journal, before, first):
+def check_ended(how: str, came: Came, journal: str, before: bytes | None, first: int) -> int:
     """How a session with a refused call ended: how many of its orders were answered."""
     status, out, error = came
     told = answered(out, first, ORDERS)
@@ -109,7 +114,7 @@ def check_ended(how, came, journal, before, first):
     return told
 
 
-def check_session(refusal, before):
+def check_session(refusal: Refusal, before: bytes | None) -> int:
     """Plays a session in which a call is refused, and checks what came of it: its status."""
     first = 1 + (len(journals.read(before).entries) if before else 0)
     put(refusal.journal, before)
@@ -125,9 +130,9 @@ def check_session(refusal, before):
     return came[0]
 
 
-def test_standard_session(sweeps):
+def test_standard_session(sweeps: Sweeps) -> None:
     """`venued -`, on a missing journal, and on one of each version with an order in it."""
-    statuses = collections.Counter()
+    statuses: collections.Counter[int] = collections.Counter()
     for before in (None, *(journal_of(orders(1, 1), it) for it in journals.VERSIONS)):
         for how in ("once", "on", "short", "before", "after"):
             sweeps.sweep(lambda it: statuses.update([check_session(it, before)]), "device", how)
@@ -136,16 +141,17 @@ def test_standard_session(sweeps):
     print(f"{sweeps.said()}; {statuses[1]} times not begun, {statuses[2]} times failed, {statuses[KILLED]} times killed")
 
 
-def test_snapshot_at_the_start(sweeps):
+def test_snapshot_at_the_start(sweeps: Sweeps) -> None:
     """`venued -` on a journal of a thousand orders, of which it writes a snapshot before it serves."""
     whole = orders(1, A_THOUSAND)
     before = journals.header(3) + journals.in_blocks(3, [Entry(1, it) for it in whole], A_THOUSAND) + journals.CLOSED
     wanted = by_rules(before, "snapshot", "ABC")[1]["J"]
-    statuses, found = collections.Counter(), collections.Counter()
+    statuses: collections.Counter[int] = collections.Counter()
+    found: collections.Counter[int] = collections.Counter()
 
-    def check(refusal):
+    def check(refusal: Refusal) -> None:
         statuses.update([check_session(refusal, before)])
-        kept = journals.read(contents(refusal.journal))
+        kept = journals.read(kept_in(refusal.journal))
         if any(it not in journals.read(wanted).snapshots for it in kept.snapshots[:1]):
             raise Trouble(f"expected a snapshot of {A_THOUSAND} orders came {kept.snapshots}")
         if (came := ran([REPLAY, refusal.journal, "check", "ABC"])) != (0, b"snapshots true\n", ""):
@@ -159,11 +165,11 @@ def test_snapshot_at_the_start(sweeps):
     print(f"{sweeps.said()}; {statuses[1]} times not begun, {statuses[2]} times failed, {statuses[KILLED]} times killed")
 
 
-def test_first_sync(sweeps):
+def test_first_sync(sweeps: Sweeps) -> None:
     """Where the first sync of the first append fails, the Logon's answer alone was written, and the status is 2."""
     found = []
 
-    def check(refusal):
+    def check(refusal: Refusal) -> None:
         put(refusal.journal, FRESH)
         came = refusal.serve(LOGON + b"".join(orders(1, 1)))
         if came[0] == 2 and refusal.came() == "fdatasync":
@@ -176,7 +182,7 @@ def test_first_sync(sweeps):
     print(f"{printed(wanted[1])} and status 2")
 
 
-def heard(port):
+def heard(port: int) -> bytes:
     """What one member hears that sends an order, waits for its report, and so on, until the venue is gone."""
     client, out = Client(port, 1), []
     try:
@@ -194,13 +200,13 @@ def heard(port):
     return "".join(it for it in out if it).replace("|", "\x01").encode()
 
 
-def check_listening(refusal, before):
+def check_listening(refusal: Refusal, before: bytes) -> int:
     """Lets a member trade with a venue to which a call is refused: its status."""
     put(refusal.journal, before)
-    venue, line = listens(refusal, 1)
+    venue, _, ended = listens(refusal, 1)
     if not venue:
-        if line != NOT_BEGUN or contents(refusal.journal) != before:
-            raise Trouble(f"expected {NOT_BEGUN} came {line}")
+        if ended != NOT_BEGUN or contents(refusal.journal) != before:
+            raise Trouble(f"expected {NOT_BEGUN} came {ended}")
         return 1
     told = answered(heard(venue.port), 2, ORDERS)
     if refusal.came():
@@ -213,20 +219,20 @@ def check_listening(refusal, before):
     return venue.process.returncode
 
 
-def test_listening(sweeps):
+def test_listening(sweeps: Sweeps) -> None:
     """A venue that listens: its journal fails while it serves, and it ends by itself, with the line and status 2."""
-    statuses = collections.Counter()
+    statuses: collections.Counter[int] = collections.Counter()
     sweeps.sweep(lambda it: statuses.update([check_listening(it, journal_of(orders(1, 1)))]), "device", "once")
     if not statuses[1] or not statuses[2]:
         raise Trouble(f"expected ends of both kinds came {dict(statuses)}")
     print(f"{sweeps.said()}; {statuses[1]} times not begun, {statuses[2]} times failed")
 
 
-def test_replays(sweeps):
+def test_replays(sweeps: Sweeps) -> None:
     """`venue-replay` that reads: where a call fails it prints no report. A read of half the bytes is none that fails."""
     before = by_rules(journal_of(orders(1, ORDERS), journals.WITH_SNAPSHOTS), "snapshot", "ABC")[1]["J"]
 
-    def check(refusal, what):
+    def check(refusal: Refusal, what: str) -> None:
         put(refusal.journal, before)
         came = refusal.ran([REPLAY, refusal.journal, what, "ABC"])
         fails = refusal.came() and refusal.how != "short"
@@ -240,7 +246,7 @@ def test_replays(sweeps):
     print(sweeps.said())
 
 
-def check_changed(refusal, came, wanted):
+def check_changed(refusal: Refusal, came: Came, wanted: Came) -> str:
     """How a run of venue-replay that writes ended: as without a refusal, by 41, or by the kill."""
     if came == wanted and (refusal.how == "short" or not refusal.came()):
         return "done"
@@ -251,9 +257,9 @@ def check_changed(refusal, came, wanted):
     raise Trouble(f"expected {wanted} {UNREAD} or a kill came {came}")
 
 
-def check_same_entries(journal, before):
+def check_same_entries(journal: str, before: bytes) -> int:
     """A journal has the entries that it had, and its snapshots are those that it had, or with one more, and true."""
-    kept = journals.read(contents(journal))
+    kept = journals.read(kept_in(journal))
     was = journals.read(before)
     if (kept.entries, kept.snapshots[:len(was.snapshots)]) != (was.entries, was.snapshots):
         raise Trouble(f"expected the entries and snapshots of before came {kept}")
@@ -263,19 +269,19 @@ def check_same_entries(journal, before):
     return len(kept.snapshots) - len(was.snapshots)
 
 
-def test_added_snapshots(sweeps):
+def test_added_snapshots(sweeps: Sweeps) -> None:
     """`venue-replay` that adds a snapshot: it is in the journal, or isn't, and the next one is added behind."""
     before = journal_of(orders(1, ORDERS), journals.WITH_SNAPSHOTS)
-    wanted, ends = by_rules(before, "snapshot", "ABC")[0], collections.Counter()
+    wanted, ends = by_rules(before, "snapshot", "ABC")[0], Ends()
 
-    def check(refusal):
+    def check(refusal: Refusal) -> None:
         put(refusal.journal, before)
         end = check_changed(refusal, refusal.ran([REPLAY, refusal.journal, "snapshot", "ABC"]), wanted)
         more = check_same_entries(refusal.journal, before)
         if more not in {"done": (1,)}.get(end, (0, 1)):
             raise Trouble(f"expected a snapshot where it was {end} came {more}")
         ends.update([(end, more)])
-        next_one, files = by_rules(contents(refusal.journal), "snapshot", "ABC")
+        next_one, files = by_rules(kept_in(refusal.journal), "snapshot", "ABC")
         came = ran([REPLAY, refusal.journal, "snapshot", "ABC"])
         if (came, contents(refusal.journal)) != (next_one, files["J"]):
             raise Trouble(f"expected, of the next snapshot, {next_one} came {came}")
@@ -285,18 +291,18 @@ def test_added_snapshots(sweeps):
     print(said_of(sweeps, ends, [("done", 1), ("failed", 0), ("failed", 1), ("killed", 0), ("killed", 1)]))
 
 
-def said_of(sweeps, ends, wanted):
+def said_of(sweeps: Sweeps, ends: Ends, wanted: list[tuple[str, int]]) -> str:
     """What sweeps came to, in words. Each of these ends has to be among them."""
     if missed := [it for it in wanted if not ends[it]]:
         raise Trouble(f"expected ends of all kinds came none {missed} in {dict(ends)}")
     return f"{sweeps.said()}; " + ", ".join(f"{ends[it]} {it[0]} with {it[1]}" for it in wanted)
 
 
-def test_carried_over(sweeps):
+def test_carried_over(sweeps: Sweeps) -> None:
     """`venue-replay` that carries over: the old journal stays, and there is a whole new one, or none. Then it is done."""
-    ends = collections.Counter()
+    ends = Ends()
 
-    def check(refusal, before):
+    def check(refusal: Refusal, before: bytes) -> None:
         old, new = refusal.journal, f"{refusal.journal}.3"
         wanted, files = by_rules(before, "carry", "N")
         put(old, before)
@@ -304,7 +310,7 @@ def test_carried_over(sweeps):
         end = check_changed(refusal, refusal.ran([REPLAY, old, "carry", new]), wanted)
         came = contents(new)
         if came not in ((files["N"],) if end == "done" else (None, files["N"])) or contents(old) != before:
-            raise Trouble(f"expected the old journal, and the whole new one or none, came {contents(old)} {came}")
+            raise Trouble(f"expected the old journal, and the whole new one or none, came {contents(old)!r} {came!r}")
         if end == "failed" and contents(f"{new}.new"):  # (it is empty where it was made, and couldn't be locked)
             raise Trouble("expected nothing that a failed carrying left came a file")
         ends.update([(end, int(came is not None))])
@@ -318,11 +324,11 @@ def test_carried_over(sweeps):
     print(said_of(sweeps, ends, [("done", 1), ("failed", 0), ("failed", 1), ("killed", 0), ("killed", 1)]))
 
 
-def test_anothers_file(sweeps):
+def test_anothers_file(sweeps: Sweeps) -> None:
     """A file of somebody's where the new one would be made: it stays as it is, whichever call is refused, and the old one too."""
     whose = b"somebody's file, which is longer than a new journal"
 
-    def check(refusal):
+    def check(refusal: Refusal) -> None:
         old, new = refusal.journal, f"{refusal.journal}.3"
         put(old, before)
         put(f"{new}.new", whose)
@@ -337,7 +343,7 @@ def test_anothers_file(sweeps):
     print(sweeps.said())
 
 
-def shown(noting, call):
+def shown(noting: Refusal, call: tuple[str, str, str]) -> str:
     """A call in words."""
     name, file, more = call
     if name == "open":
@@ -345,11 +351,11 @@ def shown(noting, call):
     elif name == "flock":
         more = LOCKS_FOR.get(int(more), more)
     elif name == "rename":
-        more = noting.beside(more)
+        more = sure(noting.beside(more))
     return f"{name} {file} {more}".rstrip().replace("venue.journal.3", "N").replace("venue.journal", "J")
 
 
-def check_asked(noting, what, wanted):
+def check_asked(noting: Refusal, what: str, wanted: list[str]) -> int:
     """What a program asked of the device that ran last."""
     came = [shown(noting, it) for it in noting.noted() if it[0] != "pread"]
     if came != wanted:
@@ -357,11 +363,11 @@ def check_asked(noting, what, wanted):
     return len(wanted)
 
 
-def listened(noting):
+def listened(noting: Refusal) -> None:
     """Lets a venue that listens take one order behind the first."""
-    venue, line = listens(noting, 1)
+    venue, _, ended = listens(noting, 1)
     if not venue:
-        raise Trouble(f"expected a venue came {line}")
+        raise Trouble(f"expected a venue came {ended}")
     client = Client(venue.port, 1)
     for it in (LOGON, *orders(2, 1)):
         client.send_bytes(it)
@@ -370,7 +376,7 @@ def listened(noting):
     venue.stop()
 
 
-def test_calls_asked(sweeps):
+def test_calls_asked(sweeps: Sweeps) -> None:
     """Which calls the programs make: none is left out of the locks, the syncs of files and folders, and the renames."""
     noting = Refusal(sweeps.library, sweeps.folder, "device", 0, "note")
     whole, block = orders(1, 1)[0], journals.block_of(journals.MADE, [Entry(1, orders(1, 1)[0])])
@@ -382,9 +388,9 @@ def test_calls_asked(sweeps):
     for what in ("book", "C1", "check"):
         noting.ran([REPLAY, noting.journal, what, "ABC"])
         count += check_asked(noting, what, READ)
-    data = contents(noting.journal)
+    data = kept_in(noting.journal)
     noting.ran([REPLAY, noting.journal, "snapshot", "ABC"])
-    more = len(contents(noting.journal)) - len(data)
+    more = len(kept_in(noting.journal)) - len(data)
     count += check_asked(noting, "a snapshot", OPENED + appended(bytes(more)))
     put(noting.journal, journal_of([whole], 1))
     noting.ran([REPLAY, noting.journal, "carry", f"{noting.journal}.3"])
@@ -394,12 +400,12 @@ def test_calls_asked(sweeps):
     print(f"{count} calls, in their order")
 
 
-def test_lock_raced(sweeps):
+def test_lock_raced(sweeps: Sweeps) -> None:
     """Another process puts its own file in the place of the new one before that is locked: this one has then locked a
     file without a name. It says so, gives no journal that name, and leaves the other's file where it is."""
-    found = collections.Counter()
+    found: collections.Counter[str] = collections.Counter()
 
-    def check(refusal, words, data, name, wanted):
+    def check(refusal: Refusal, words: Callable[[str], list[str]], data: bytes, name: str, wanted: Came) -> None:
         put(refusal.journal, None if data else journal_of(orders(1, 1), 1))
         came = refusal.ran(words(refusal.journal), data)
         if refusal.came() != "flock":

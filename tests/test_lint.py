@@ -9,7 +9,7 @@ import sys
 
 import pytest
 
-from checks import ROOT
+from checks import ROOT, put_text
 
 pytestmark = pytest.mark.quick
 
@@ -21,6 +21,9 @@ FILES: dict[str, tuple[str, list[str]]] = {
     "unused.py": ('import os\nimport sys  # (in front of what a later Python has)\n', ["1: 'os' imported but unused"]),
     "typed.py": ('def half(it: int) -> int:\n    return it / 2\n',
                  ['2: error: Incompatible return value type (got "float", expected "int")  [return-value]']),
+    "untyped.py": ("def half(it):\n    return it / 2\n", ["1: error: Function is missing a type annotation  [no-untyped-def]"]),
+    "edge/tests/untyped_too.py": ("def half(it):\n    return it / 2\n",
+                                  ["1: error: Function is missing a type annotation  [no-untyped-def]"]),
     "form.py": ("ONE = 1\nTWO = 2\nTHREE = 3\nCOUNT=4\n\n\ndef one( ) -> int:\n    return 1\n", [f"4: {FORM}"]),
     "right.py": ("def one() -> int:\n    def two() -> int:\n        return 2\n    return two() - 1\n", []),
     "dev/one": ('#!/usr/bin/env python3\nimport os\nfrom right import one\nCOUNT: str = one()\n',
@@ -30,12 +33,6 @@ FILES: dict[str, tuple[str, list[str]]] = {
                                                                '2: error: Name "COUNT" is not defined  [name-defined]']),
     "scripts/two": ("#!/bin/sh\nimport os\n", []),
 }
-
-
-def put(path: str, text: str) -> None:
-    os.makedirs(os.path.dirname(path) or ".", exist_ok=True)
-    with open(path, "w", encoding="ascii") as file:
-        file.write(text)
 
 
 def known(*paths: str) -> None:
@@ -57,11 +54,11 @@ def test_findings() -> None:
     """Each import that isn't used, each wrong type and each other form is told by its place, also in scripts that have no ending, and one
     that isn't there; what git doesn't know isn't looked at. By --write a file gets its form."""
     for path, (text, _) in FILES.items():
-        put(path, text)
-    put("gone.py", "")
+        put_text(path, text)
+    put_text("gone.py", "")
     known(*FILES, "gone.py")
     os.remove("gone.py")
-    put("later/unknown.py", "import os\n")
+    put_text("later/unknown.py", "import os\n")
     form = ["form.py:4: " + FORM]
     rest = [f"{path}:{it}" for path, (_, found) in FILES.items() for it in found if f"{path}:{it}" not in form]
     tests = 2 * (len(FILES) - 1 + len(OWN) + 2) + 1
@@ -73,11 +70,11 @@ def test_findings() -> None:
         assert file.read() == "ONE = 1\nTWO = 2\nTHREE = 3\nCOUNT = 4\n\n\ndef one() -> int:\n    return 1\n"
 
 
-@pytest.mark.parametrize("path", ("unused.py", "typed.py", "form.py", "right.py"))
+@pytest.mark.parametrize("path", ("unused.py", "typed.py", "untyped.py", "edge/tests/untyped_too.py", "form.py", "right.py"))
 def test_one_file(path: str) -> None:
     """A finding of one kind alone makes the status 1, and where there is none all pass."""
     text, found = FILES[path]
-    put(path, text)
+    put_text(path, text)
     known(path)
     tests = 2 * (len(OWN) + 2) + 1
     assert lint() == (1 if found else 0, [*(f"{path}:{it}" for it in found), f"{tests - len(found)} passed, {len(found)} failed"])

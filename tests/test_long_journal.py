@@ -20,13 +20,13 @@ from typing import NamedTuple
 
 import pytest
 
-from book_rules import Book, Order
 from gikvand import journals
 from gikvand.journals import Entry
-from gikvand.rules import Judged, told
-from refusals import LOGON, Refusal, compiled, contents, greatest, orders, put, standard
-from replay_rules import counts, line_of
-from snapshot_rules import snapshot
+from oracle.book_rules import Book, Order
+from oracle.replay_rules import counts, line_of
+from oracle.session_rules import Judged, told
+from oracle.snapshot_rules import snapshot
+from refusals import LOGON, Came, Refusal, Sweeps, compiled, greatest, kept, orders, put, standard
 from venues import PATIENCE, REPLAY, Trouble, Venue, free_port, message, order
 
 pytestmark = [pytest.mark.quick, pytest.mark.usefixtures("programs")]
@@ -39,26 +39,26 @@ A_BEGINNING = 1_000_000       # Bytes of which a start has read more where it su
 SLACK = 1024                  # What the long journal may take beyond the short one, in KiB.
 
 
-def entries(count):
+def entries(count: int) -> list[Entry]:
     """So many entries: by turns a sell and a buy that trade, one that is no order, and a few that rest."""
     resting = [message(1, 2, "D", order(count - RESTING + 1 + it, 2, 10, 60 + it)) for it in range(RESTING)]
     return [Entry(1, it) for it in (*orders(1, count - RESTING - 1), b"x", *resting)]
 
 
 @functools.lru_cache(maxsize=None)
-def journal_of(count):
+def journal_of(count: int) -> bytes:
     """The bytes of a journal of these entries."""
     return journals.header(journals.MADE) + journals.in_blocks(journals.MADE, entries(count), BLOCK) + journals.CLOSED
 
 
 @functools.lru_cache(maxsize=None)
-def with_snapshot(count):
+def with_snapshot(count: int) -> bytes:
     """The same with the snapshot that the first start adds."""
     data = journal_of(count)
     return journals.added(data, len(data) - 1, journals.snapshot_block(snapshot(book_of(count))))
 
 
-def book_of(count):
+def book_of(count: int) -> Book:
     """The book behind them. Of two orders that trade there are four reports, of one that rests there is one."""
     book = Book()
     book.commands, book.outputs, book.greatest[1] = count, 2 * (count - RESTING - 1) + RESTING, count
@@ -67,19 +67,19 @@ def book_of(count):
     return book
 
 
-def session(count):
+def session(count: int) -> bytes:
     """A Logon, and an order that rests, behind so many entries."""
     return LOGON + message(1, 2, "D", order(count + 1, 1, 10, 50))
 
 
-def answers(count):
+def answers(count: int) -> bytes:
     """What that session is told."""
     judged = Judged(session(count), book_of(count))
     whole = [told(kind, 1, when, own) for kind, when, own, _ in judged.session.answers]
     return b"".join(whole + [told(kind, 2, when, own) for kind, when, own, _ in judged.reports])
 
 
-def book_lines(count):
+def book_lines(count: int) -> bytes:
     """What venue-replay prints of the book."""
     book = book_of(count)
     return "".join(f"{line}\n" for line in (*map(line_of, book.listed()), counts(book))).encode()
@@ -92,22 +92,22 @@ class Run(NamedTuple):
     data: Callable[[int], bytes]
     wanted: Callable[[int], bytes]
 
-    def came(self, kib, journal, count):
+    def came(self, kib: int, journal: str, count: int) -> Came:
         """How it ends over the journal of so many entries, where it has so much memory for itself."""
         put(journal, self.journal(count))
         words = ["sh", "-c", 'ulimit -v "$0" && exec "$@"', str(kib), *self.words(journal)]
         it = subprocess.run(words, input=self.data(count), capture_output=True, timeout=PATIENCE)
         return it.returncode, it.stdout, it.stderr.decode()
 
-    def is_enough(self, kib, journal, count):
+    def is_enough(self, kib: int, journal: str, count: int) -> bool:
         """Whether it does then what it does with ample memory."""
         return self.came(kib, journal, count) == (0, self.wanted(count), "")
 
-    def least(self, journal):
+    def least(self, journal: str) -> int:
         """What memory it takes at least on the short journal, in KiB."""
         return STEP * (1 + greatest(lambda it: not self.is_enough(STEP * it, journal, SHORT)))
 
-    def read(self, noting):
+    def read(self, noting: Refusal) -> int:
         """How many bytes of the long journal it reads."""
         put(noting.journal, self.journal(LONG))
         came = noting.ran(self.words(noting.journal), self.data(LONG))
@@ -115,7 +115,7 @@ class Run(NamedTuple):
             raise Trouble(f"expected {(0, self.wanted(LONG), '')} came {came}")
         return sum(int(more) for name, _, more in noting.noted() if name == "pread")
 
-    def check(self, sweeps):
+    def check(self, sweeps: Sweeps) -> str:
         """Runs it with memory for the short journal, and looks how often it reads the long one."""
         noting = Refusal(sweeps.library, sweeps.folder, "device", 0, "note")
         limit = self.least(noting.journal)
@@ -128,42 +128,42 @@ class Run(NamedTuple):
         return f"{limit} KiB and {SLACK} more, {read} bytes read of {size}"
 
 
-def no_input(_count):
+def no_input(_count: int) -> bytes:
     """Nothing."""
     return b""
 
 
-def test_first_start(sweeps):
+def test_first_start(sweeps: Sweeps) -> None:
     """`venued -`, which adds a snapshot before it serves."""
     said = Run(standard, journal_of, session, answers).check(sweeps)
-    came = contents(os.path.join(sweeps.folder, "venue.journal"))
+    came = kept(os.path.join(sweeps.folder, "venue.journal"))
     wanted = with_snapshot(LONG)
     if came[:len(wanted) - 1] != wanted[:-1]:
         raise Trouble("expected the entries and a snapshot of them came other bytes")
     print(said)
 
 
-def test_second_start(sweeps):
+def test_second_start(sweeps: Sweeps) -> None:
     """`venued -` behind that snapshot."""
     print(Run(standard, with_snapshot, session, answers).check(sweeps))
 
 
-def all_true(_count):
+def all_true(_count: int) -> bytes:
     """What it prints where all snapshots are true."""
     return b"snapshots true\n"
 
 
-def test_snapshots_checked(sweeps):
+def test_snapshots_checked(sweeps: Sweeps) -> None:
     """`venue-replay` with `check`."""
     print(Run(lambda it: [REPLAY, it, "check", "ABC"], with_snapshot, no_input, all_true).check(sweeps))
 
 
-def test_book_shown(sweeps):
+def test_book_shown(sweeps: Sweeps) -> None:
     """`venue-replay` with `book`."""
     print(Run(lambda it: [REPLAY, it, "book", "ABC"], with_snapshot, no_input, book_lines).check(sweeps))
 
 
-def await_reading(venue):
+def await_reading(venue: Venue) -> None:
     """Waits until the venue reads its journal."""
     end = time.monotonic() + PATIENCE
     while time.monotonic() < end:
@@ -173,7 +173,7 @@ def await_reading(venue):
     raise Trouble(f"venued doesn't read its journal within {PATIENCE} seconds")
 
 
-def test_stop_at_the_start(sweeps):
+def test_stop_at_the_start(sweeps: Sweeps) -> None:
     """A venue that is told to stop while it reads its journal."""
     path = os.path.join(sweeps.folder, "venue.journal")
     put(path, journal_of(LONG))
@@ -189,16 +189,22 @@ def test_stop_at_the_start(sweeps):
     print(f"it was ready, and stopped with {counts[1][0]} commands")
 
 
-def test_wrong_programs(sweeps):
+def stood_in(*words: str) -> list[str]:
+    """The words of a program that stands in, with the journal as the last one."""
+    return list(words)
+
+
+def test_wrong_programs(sweeps: Sweeps) -> None:
     """Of programs that stand in for these, each with a fault or none, those with one are refused."""
     program, answer = os.path.join(sweeps.folder, "stand_in"), os.path.join(sweeps.folder, "answer")
     compiled("tests/stand_in.c", program)
     put(answer, all_true(LONG))
     seen = {}
     for wrong in ("none", "keeps", "twice", "most"):
-        stands_in = Run(lambda it, wrong=wrong: [program, wrong, answer, it], journal_of, no_input, all_true)
+        stands_in = Run(functools.partial(stood_in, program, wrong, answer), journal_of, no_input, all_true)
         try:
-            seen[wrong] = bool(stands_in.check(sweeps)) and "passed"
+            stands_in.check(sweeps)
+            seen[wrong] = "passed"
         except Trouble as why:
             seen[wrong] = "read" if "bytes read" in str(why) else "memory"
     if seen != {"none": "passed", "keeps": "memory", "twice": "read", "most": "memory"}:

@@ -21,6 +21,7 @@ from collections.abc import Callable
 
 import pytest
 
+from gikvand.words import sure
 from refusals import Refusal, Sweeps
 from venues import COUNTS, PATIENCE, Client, Late, Trouble, Venue, free_port, in_some_try, message, order, value
 
@@ -105,18 +106,21 @@ def check_left(calls: list[Call]) -> None:
     last = max(at for at, name in enumerate(names(calls)) if name == "write")
     behind = [(name, what) for name, _, what in calls[last + 1:]]
     wanted = [("shutdown", SHUT_WRITE), ("read", 0), ("close", 0)]
-    if [it for it in behind if it[0] != "read" or it[1] == 0] != wanted:
+    came = [it for it in behind if it[0] != "read" or it[1] == 0]
+    if came == [wanted[0], wanted[2]]:  # It waits for some seconds, in which this process may stand still.
+        raise Late(f"expected a client that is read to its end came {behind}")
+    if came != wanted:
         raise Trouble(f"expected {wanted} behind the last write came {behind}")
 
 
 def test_connections_of_clients(sweeps: Sweeps) -> None:
     """A client that trades and logs out, one that is refused and sends more, and one of another member."""
-    print(clients_who_leave(sweeps))
+    print(in_some_try(lambda _: clients_who_leave(sweeps), "connections_of_clients"))
 
 
 def test_last_words_that_wait(sweeps: Sweeps) -> None:
     """The same where two of three writes move nothing: what a client is told last goes out before its side is shut."""
-    print(clients_who_leave(sweeps, LATE="1"))
+    print(in_some_try(lambda _: clients_who_leave(sweeps, LATE="1"), "last_words_that_wait"))
 
 
 def clients_who_leave(sweeps: Sweeps, **more: str) -> str:
@@ -174,7 +178,7 @@ def test_options_refused(sweeps: Sweeps) -> None:
             venue = venue_of(folder, 1, refusal.set)
             if not is_let_go(venue.port):
                 raise Trouble(f"expected a client let go where {refusal.came()} is refused came an answer")
-            refused.append(refusal.came())
+            refused.append(sure(refusal.came()))
             Client(venue.port, 1).log_on()
             venue.stop()
     if {*refused} != {name for name, _ in SET}:
@@ -184,6 +188,11 @@ def test_options_refused(sweeps: Sweeps) -> None:
 
 def test_many_bytes_in_a_call(sweeps: Sweeps) -> None:
     """Orders that are sent in one go are read in a few calls, and no report is written in pieces."""
+    print(in_some_try(lambda _: many_bytes_in_a_call(sweeps), "many_bytes_in_a_call"))
+
+
+def many_bytes_in_a_call(sweeps: Sweeps) -> str:
+    """The calls of a venue that is sent many orders. Where its threads take turns with other programs reports come one by one."""
 
     def use(venue: Venue) -> None:
         client = Client(venue.port, 1).log_on()
@@ -196,10 +205,10 @@ def test_many_bytes_in_a_call(sweeps: Sweeps) -> None:
     reads = [what for name, _, what in calls if name == "read" and what]
     writes = [what for name, _, what in calls if name == "write"]
     if len(reads) > MOST_READS:
-        raise Trouble(f"expected at most {MOST_READS} reads of {sum(reads)} bytes came {len(reads)}")
+        raise Late(f"expected at most {MOST_READS} reads of {sum(reads)} bytes came {len(reads)}")
     if len(writes) > MOST_WRITES:
-        raise Trouble(f"expected at most {MOST_WRITES} writes of {1 + MANY} messages came {len(writes)}")
-    print(f"{sum(reads)} bytes in {len(reads)} reads, {sum(writes)} in {len(writes)} writes")
+        raise Late(f"expected at most {MOST_WRITES} writes of {1 + MANY} messages came {len(writes)}")
+    return f"{sum(reads)} bytes in {len(reads)} reads, {sum(writes)} in {len(writes)} writes"
 
 
 def test_looks_that_fail(sweeps: Sweeps) -> None:
@@ -209,7 +218,7 @@ def test_looks_that_fail(sweeps: Sweeps) -> None:
         with tempfile.TemporaryDirectory(dir=sweeps.folder) as folder:
             refusal = Refusal(sweeps.library, folder, "look", at, how)
             venue = venue_of(folder, 1, refusal.set)
-            end = time.monotonic() + 10
+            end = time.monotonic() + PATIENCE
             while not refusal.came() and time.monotonic() < end:
                 time.sleep(0.01)
             if refusal.came() != "statx":
@@ -255,7 +264,7 @@ def rests_of_an_idle_venue(sweeps: Sweeps) -> str:
         if set(them) != {PARKS}:
             raise Trouble(f"expected a worker to park for {PARKS} milliseconds came {them[:5]}")
         if not 0 < len(them) - len(before["park"][thread]) <= most:
-            raise Trouble(f"expected at most {most:.0f} rests came {len(them) - len(before['park'][thread])}")
+            raise Late(f"expected at most {most:.0f} rests, and some, came {len(them) - len(before['park'][thread])}")
     for thread, them in found["yield"].items():
         is_more = len(them) > WORKERS or them != before["yield"].get(thread)
         if max(them) > MOST_YIELDS or is_more and not found["away"]:
@@ -326,7 +335,7 @@ def test_each_member_is_woken(sweeps: Sweeps) -> None:
         def told(at: int) -> float:
             took = [told_of_fill(clients[at], clients[at - 1], next(names)) for _ in range(FILLS)]
             return median_of_tries(took, f"a fill told to member {at + 1}")
-        worst = max(in_some_try(lambda _, at=at: told(at), "each_member_is_woken") for at in range(MEMBERS))
+        worst = max(in_some_try(lambda _: told(at), "each_member_is_woken") for at in range(MEMBERS))
         venue.stop()
     print(f"{MEMBERS} members, half of the fills of each within {1000 * worst:.1f} ms")
 
@@ -394,14 +403,18 @@ def is_ended_before(calls: list[tuple[str, int]], name: str) -> bool:
 
 
 def check_most(count: int, what: str) -> str:
-    if 2 * count <= TRIES:
-        raise Trouble(f"expected most of {TRIES} rests ended by {what} came {count}")
+    if 2 * count <= TRIES:  # (a thread that gets no turn for as long as its rest is finds that over)
+        raise Late(f"expected most of {TRIES} rests ended by {what} came {count}")
     return f"{count} of {TRIES} rests ended by {what}"
 
 
 def test_clients_end_rests(sweeps: Sweeps) -> None:
     """A client that comes while all workers rest is let in behind a rest that it has ended: it doesn't wait for the next
     look. (One that comes just as a worker looks has ended none.)"""
+    print(in_some_try(lambda _: clients_end_rests(sweeps), "clients_end_rests"))
+
+
+def clients_end_rests(sweeps: Sweeps) -> str:
     count = 0
     with tempfile.TemporaryDirectory(dir=sweeps.folder) as folder:
         path = os.path.join(folder, "done")
@@ -413,7 +426,7 @@ def test_clients_end_rests(sweeps: Sweeps) -> None:
             behind = [them[before.get(thread, 0):] for thread, them in done(path).items()]
             count += any(is_ended_before(them, "accept") for them in behind if "accept" in dict(them))
         venue.stop()
-    print(check_most(count, "clients"))
+    return check_most(count, "clients")
 
 
 def fill(client: Client, path: str) -> int:
@@ -435,6 +448,10 @@ def fill(client: Client, path: str) -> int:
 
 def test_readers_end_rests(sweeps: Sweeps) -> None:
     """What a client is told and doesn't take waits; as it takes some, the rest ends, and more goes out at once."""
+    print(in_some_try(lambda _: readers_end_rests(sweeps), "readers_end_rests"))
+
+
+def readers_end_rests(sweeps: Sweeps) -> str:
     count = 0
     with tempfile.TemporaryDirectory(dir=sweeps.folder) as folder:
         path = os.path.join(folder, "done")
@@ -449,7 +466,7 @@ def test_readers_end_rests(sweeps: Sweeps) -> None:
                 taken += 1
             count += is_ended_before(done(path)[thread][size:], "write")
         venue.stop()
-    print(check_most(count, "readers"))
+    return check_most(count, "readers")
 
 
 def test_rests_refused(sweeps: Sweeps) -> None:

@@ -18,7 +18,7 @@ from unittest import mock
 
 import pytest
 
-from checks import ROOT
+from checks import ROOT, put_text
 from gikvand.words import sure
 
 pytestmark = pytest.mark.quick
@@ -179,13 +179,12 @@ CASES = [
 def test_word(case: Case) -> None:
     """A play with this word passes, or fails at its line with its fault."""
     for name in ("venued", "venue-replay"):
-        with open(name, "w", encoding="ascii") as file:
-            file.write(SHELL)
-        os.chmod(name, 0o755)
-    with open("case.play", "w", encoding="utf-8") as file:
-        file.write("".join(f"{it}\n" for it in case.lines))
+        put_text(name, SHELL, 0o755)
+    put_text("case.play", "".join(f"{it}\n" for it in case.lines))
     programs = [f"--{it}={os.path.abspath(it)}" for it in ("venued", "venue-replay")]
-    it = subprocess.run([sys.executable, PLAY, "case.play", *programs], capture_output=True, text=True, timeout=PATIENCE)
+    patience = "10" if case.fault else "30"  # (some of them wait in vain)
+    it = subprocess.run([sys.executable, PLAY, "case.play", *programs], capture_output=True, text=True, timeout=PATIENCE,
+                        env={**os.environ, "VENUE_PATIENCE": patience})
     said = it.stdout.replace("\n", " ")
     wanted = rf"case\.play:{case.at}: {case.fault}.*0 passed, 1 failed " if case.fault else r"1 passed, 0 failed "
     assert (it.returncode, it.stderr) == (int(bool(case.fault)), "")

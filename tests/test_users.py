@@ -20,14 +20,14 @@ from unittest import mock
 import pytest
 
 import crates
-from checks import ROOT
+from checks import ROOT, contents, put, put_text
 from gikvand import journals
 from gikvand.journals import Entry
 from gikvand.words import sure
 from pictures import Picture, row_of
 from script_modules import loaded
-from venues import EVENTS, HOST, PATIENCE, REPLAY, TIME, VENUED, Trouble, await_that, free_port, market_order
-from venues import message, order, started
+from venues import EVENTS, HOST, PATIENCE, REPLAY, TIME, VENUED, Late, Trouble, await_that, free_port, in_some_try
+from venues import market_order, message, order, started
 
 pytestmark = [pytest.mark.quick, pytest.mark.usefixtures("programs")]
 
@@ -181,7 +181,7 @@ def test_bytes_of_all_kinds() -> None:
 
 def test_venues_that_end() -> None:
     """A venue that ends with a fault behind its answers leaves a line, and the status 1: the journal has to be looked at."""
-    put("venued", f"#!/bin/sh\n{PROGRAMS['VENUED']} \"$@\"\nexit 2\n")
+    put_text("venued", f"#!/bin/sh\n{PROGRAMS['VENUED']} \"$@\"\nexit 2\n", 0o755)
     status, out, err = trade("--journal", JOURNAL, "buy", "5", "ABC", "50", VENUED=os.path.abspath("venued"))
     assert (status, out[1:], err) == (1, ["order 1 accepted: buy 5 ABC at 50 (ClOrdID 1)",
                                           "venued ended with status 2 (docs/OPERATING.md says what that means)"], [])
@@ -251,8 +251,7 @@ def test_a_terminal() -> None:
 
 
 def test_market_orders_of_an_old_journal() -> None:
-    with open(JOURNAL, "wb") as file:
-        file.write(journals.empty(1))
+    put(JOURNAL, journals.empty(1))
     expect_trade(f"--journal {JOURNAL} buy 1 ABC market", 1, [f"The journal {JOURNAL}, for ABC.",
                  "rejected: the venue takes no market orders: its journal is an old one, of version 1"])
 
@@ -301,8 +300,7 @@ def test_venues_that_cannot_be_had() -> None:
     port = free_port(1)
     assert trade("--port", str(port), "orders") == (
         2, [], [f"gikvand trade: no venue answers at {HOST}, port {port}: Connection refused"])
-    with open("none.journal", "wb") as file:
-        file.write(b"no journal")
+    put("none.journal", b"no journal")
     status, out, err = trade("--journal", "none.journal", "orders")
     assert (status, out) == (2, [])
     assert err == ["gikvand trade: the journal none.journal can't be read: venue-replay: journal fault 43 (docs/OPERATING.md "
@@ -418,11 +416,11 @@ def test_demos_that_fail() -> None:
     assert ran([script("demo"), "x"])[:2] == (2, [])
     status, out, err = ran([script("demo")], VENUED=os.path.abspath("missing"))
     assert (status, out, [it.endswith(BUILT) for it in err]) == (2, [], [True])
-    put("venued", "#!/bin/sh\necho 'venued: no memory' >&2\nexit 1\n")
+    put_text("venued", "#!/bin/sh\necho 'venued: no memory' >&2\nexit 1\n", 0o755)
     status, out, err = ran([script("demo")], VENUED=os.path.abspath("venued"))
     assert (status, out) == (2, [])
     assert err == ["gikvand demo: venued isn't ready; it said: venued: no memory (docs/OPERATING.md says what that means)"]
-    put("venued", f"#!/bin/sh\n{PROGRAMS['VENUED']} \"$@\"\nexit 3\n")
+    put_text("venued", f"#!/bin/sh\n{PROGRAMS['VENUED']} \"$@\"\nexit 3\n", 0o755)
     status, out, err = ran([script("demo")], VENUED=os.path.abspath("venued"))
     assert (status, err) == (2, ["gikvand demo: venued ended with status 3"])
 
@@ -451,30 +449,24 @@ def test_demos_that_are_ended() -> None:
     """SIGTERM ends the demo with all that it has started, and nothing of it is left behind."""
     with contextlib.ExitStack() as behind:
         behind.callback(end_all_in, os.getcwd())
-        with subprocess.Popen([script("demo")], stdout=subprocess.PIPE, stderr=subprocess.PIPE, text=True,
-                              env={**os.environ, **PROGRAMS, "TMPDIR": os.getcwd(), "PYTHONUNBUFFERED": "1"}) as demo:
-            while "ready" not in (line := sure(demo.stdout).readline()):
-                assert (line != "", demo.poll()) == (True, None)
-            assert len(processes_in(os.getcwd())) > 0
-            demo.terminate()
-            sure(demo.stdout).read()
-            assert (demo.wait(LONG), sure(demo.stderr).read()) == (1, "gikvand demo: ended by a signal\n")
-        await_that("nothing of the demo runs", lambda: not processes_in(os.getcwd()))
-        assert os.listdir() == []
+        in_some_try(lambda _: end_a_demo(), "demos_that_are_ended")
 
 
-def contents(name: str) -> bytes:
-    with open(name, "rb") as file:
-        return file.read()
-
-
-def put(name: str, text: str, mode: int = 0o755) -> str:
-    """Makes a file of this text, which may be run, and gives its path."""
-    os.makedirs(os.path.dirname(os.path.abspath(name)), exist_ok=True)
-    with open(name, "w", encoding="utf-8") as file:
-        file.write(text)
-    os.chmod(name, mode)
-    return os.path.abspath(name)
+def end_a_demo() -> None:
+    """Ends a demo that has begun. It takes a moment alone, and may be over where this process stands still meanwhile."""
+    with subprocess.Popen([script("demo")], stdout=subprocess.PIPE, stderr=subprocess.PIPE, text=True,
+                          env={**os.environ, **PROGRAMS, "TMPDIR": os.getcwd(), "PYTHONUNBUFFERED": "1"}) as demo:
+        while "ready" not in (line := sure(demo.stdout).readline()):
+            assert line != ""
+        count = len(processes_in(os.getcwd()))
+        demo.terminate()
+        sure(demo.stdout).read()
+        came = demo.wait(LONG), sure(demo.stderr).read()
+    await_that("nothing of the demo runs", lambda: not processes_in(os.getcwd()))
+    assert os.listdir() == []
+    if came == (0, ""):
+        raise Late("the demo was over before it got the signal")
+    assert (count > 0, came) == (True, (1, "gikvand demo: ended by a signal\n"))
 
 
 def replaced(name: int, was: int, symbol: str, side: int, total: int, price: int) -> str:
@@ -501,8 +493,7 @@ def test_a_day_drawn() -> None:
     for member, kind, text in DRAWN:
         numbers[member] += 1
         entries.append(Entry(member, message(member, numbers[member], kind, text)))
-    with open("my.journal", "wb") as file:
-        file.write(journals.header(3) + journals.in_blocks(3, entries, 3) + journals.CLOSED)
+    put("my.journal", journals.header(3) + journals.in_blocks(3, entries, 3) + journals.CLOSED)
     status, out, err = ran([script("day"), "my.journal", "ABC", "XYZ", "NIX"])
     assert (status, err) == (0, [])
     picture = Picture("\n".join(out))
@@ -524,9 +515,7 @@ def test_a_day_of_leftovers() -> None:
     """What an order that may not rest has left is no best price, not for a moment; and a name may have any letters."""
     entries = [Entry(1, message(1, 2, "D", order(1, 2, 5, 50))), Entry(2, message(2, 2, "D", order(1, 1, 9, 60, more="59=3|"))),
                Entry(1, message(1, 3, "D", order(2, 2, 4, 55)))]
-    name = "a&b <c> \"d\".journal"
-    with open(name, "wb") as file:
-        file.write(journals.header(3) + journals.in_blocks(3, entries, 1) + journals.CLOSED)
+    name = put("a&b <c> \"d\".journal", journals.header(3) + journals.in_blocks(3, entries, 1) + journals.CLOSED)
     status, out, err = ran([script("day"), name, "ABC"])
     assert (status, err) == (0, [])
     picture = Picture("\n".join(out))
@@ -564,20 +553,20 @@ def test_the_first_order() -> None:
     assert (status, out) == (1, [])
     assert err == ["first-order: there is no rt on the path, and no built program: README.md says what is needed"]
     data = "\\n".join(it.replace("|", "\\001") for it in ANSWERS).replace("\\n", "")
-    put("kit/rt", f"#!/bin/sh\necho \"$@\" >{os.getcwd()}/asked\ncat >{os.getcwd()}/given\nprintf '{data}'\necho hello >&2\n")
+    put_text("kit/rt", f"#!/bin/sh\necho \"$@\" >{os.getcwd()}/asked\ncat >{os.getcwd()}/given\nprintf '{data}'\necho hello >&2\n", 0o755)
     trial = {**work, "PATH": f"{os.path.abspath('kit')}:{PATH}"}
     status, out, err = ran(call, **trial)
     assert (status, out[1:], err) == (0, ANSWERS, [])
     assert "not proved" in out[0]
     assert contents("asked") == b"try -- - first.journal 1 ABC\n"
     assert contents("given") == contents("examples/first_order.fix")
-    put("kit/rt", "#!/bin/sh\necho 'error: no' >&2\nexit 3\n")
+    put_text("kit/rt", "#!/bin/sh\necho 'error: no' >&2\nexit 3\n", 0o755)
     status, out, err = ran(call, **trial)
     assert (status, err) == (1, ["error: no", "first-order: the trial run failed; what rt said stands above"])
     assert [it for it in out if it.startswith("8=")] == []
-    put("crates/venued/out/venued", f"#!/bin/sh\nexec {PROGRAMS['VENUED']} \"$@\"\n")
+    put_text("crates/venued/out/venued", f"#!/bin/sh\nexec {PROGRAMS['VENUED']} \"$@\"\n", 0o755)
     assert ran(call, **trial) == (0, ["By crates/venued/out/venued, the proved program as it was built last:", *ANSWERS], [])
-    put("crates/venued/out/venued", "#!/bin/sh\necho 'venued: no memory' >&2\nexit 1\n")
+    put_text("crates/venued/out/venued", "#!/bin/sh\necho 'venued: no memory' >&2\nexit 1\n", 0o755)
     status, out, err = ran(call, **work)
     assert (status, err) == (1, ["venued: no memory"])
     assert (ran([*call, "x"], **work)[0], ran([*call, "--help"], **work)[0]) == (1, 0)
@@ -621,19 +610,19 @@ def build(fails: str = "", **others: str) -> tuple[int, list[str], list[str], li
     for name in ("build", "crates.py", "needs_python.py"):
         os.makedirs("repository/scripts", exist_ok=True)
         shutil.copy(script(name), "repository/scripts")
-    put("repository/crates.txt", "".join(f"{name}: {below}\n" for name, below in {**CRATES, **others}.items()), 0o644)
+    put_text("repository/crates.txt", "".join(f"{name}: {below}\n" for name, below in {**CRATES, **others}.items()))
     for name in CRATES:
-        put(f"repository/crates/{name}/src/{'main' if name.startswith('venue') else 'lib'}.rt", "//\n", 0o644)
+        put_text(f"repository/crates/{name}/src/{'main' if name.startswith('venue') else 'lib'}.rt", "//\n")
     for name in ("rt", "rattle"):
-        put(f"repository/kit/bin/{name}", CHECKER.format(here=here))
-    put("repository/fails", fails, 0o644)
-    put("repository/killed", "", 0o644)
+        put_text(f"repository/kit/bin/{name}", CHECKER.format(here=here), 0o755)
+    put_text("repository/fails", fails)
+    put_text("repository/killed", "")
     return again()
 
 
 def again(*words: str) -> tuple[int, list[str], list[str], list[str]]:
     """The same once more, over what was built."""
-    put("repository/asked", "", 0o644)
+    put_text("repository/asked", "")
     kit = os.path.abspath("repository/kit/bin")
     status, out, err = ran([os.path.abspath("repository/scripts/build"), "--jobs", "2", *words],
                            PATH=f"{kit}:{os.path.dirname(sys.executable)}:{PATH}")
@@ -663,7 +652,7 @@ def test_a_build() -> None:
     status, out, err, asked = again()
     assert (status, err, proved(out), [it for it in asked if "check" in it]) == (0, [], [], [])
     for part in ("src/lib.rt", "specs/Low.antt", "proofs/deep/Answers.antt"):
-        path = put(f"repository/crates/low/{part}", "// changed\n", 0o644)
+        path = put_text(f"repository/crates/low/{part}", "// changed\n")
         os.utime(path, (time.time() + 60,) * 2)
         status, out, err, asked = again()
         os.utime(path, (0, 0))
@@ -673,7 +662,7 @@ def test_a_build() -> None:
 
 def test_crates_below_others() -> None:
     """Each crate comes behind those that it stands on, and each once."""
-    listed = {"top": ["left", "right", "std"], "left": ["low"], "right": ["middle"], "middle": ["low"], "low": [], "other": ["low"]}
+    listed: crates.Crates = {"top": ["left", "right", "std"], "left": ["low"], "right": ["middle"], "middle": ["low"], "low": [], "other": ["low"]}
     found = crates.below("top", listed)
     assert (sorted(found), found.index("low") < found.index("left"),
             found.index("low") < found.index("middle") < found.index("right")) == (["left", "low", "middle", "right"], True, True)

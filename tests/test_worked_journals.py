@@ -10,14 +10,15 @@ from collections.abc import Iterator
 
 import pytest
 
-from book_rules import Book
 from gikvand import journals
 from gikvand.journals import Damaged, Entry, NotAJournal, Snapshot
-from gikvand.rules import read_order, sealed, shown
+from gikvand.fix import sealed
 from gikvand.words import sure
 from replay_program import FOLDERS, Program
-from replay_rules import USAGE, WRONG_WORDS, Outcome, Replayer
-from snapshot_rules import BadSnapshot, restore
+from oracle.book_rules import Book, shown
+from oracle.order_rules import read_order
+from oracle.replay_rules import USAGE, WRONG_WORDS, Outcome, Replayer
+from oracle.snapshot_rules import BadSnapshot, restore
 from venues import Trouble, framed, message, order
 
 pytestmark = pytest.mark.quick

@@ -34,6 +34,7 @@ sys.path.insert(0, os.path.join(ROOT, "dev"))
 import with_scripts  # (in front of what stands there, and of what an older Python can't read)
 import corners
 import measuring
+from checks import contents, put
 from corners import SYMBOLS
 from gikvand import journals
 from measuring import FIGURE, PROJECT, TWIN
@@ -91,11 +92,9 @@ def served(program: str, data: bytes, kept: bytes | None) -> tuple[int, bytes, b
     with tempfile.TemporaryDirectory(prefix="twins-") as folder:
         path = os.path.join(folder, "venue.journal")
         if kept is not None:
-            with open(path, "wb") as file:
-                file.write(kept)
+            put(path, kept)
         status, out, _ = ran([program, "-", path, "1", *SYMBOLS], data)
-        with open(path, "rb") as file:
-            return status, out, file.read()
+        return status, out, contents(path)
 
 
 def serve(program: Program) -> None:
@@ -156,6 +155,7 @@ class Trading(threading.Thread):
     def hear_rest(self) -> None:
         """Takes what is left once all have traded: all is due before the answer to an order that trades with nobody."""
         self.client.send("D", order(ORDERS + 1, 1, 1, 1, more="59=3|"))
+        said: str | None
         while f"|11={ORDERS + 1}|" not in (said := self.client.next() or "nothing") or "|150=4|" not in said:
             self.reports.append(said)
         self.reports.append(said)

@@ -6,19 +6,19 @@ from typing import NamedTuple
 
 import checks
 
-TAKEN = ("CHANGELOG.md", "LICENSE", "VERSION", "contrib", "dev", "docs", "edge", "examples", "pyproject.toml", "scripts", "tests", "tools")
-NOT_TAKEN = shutil.ignore_patterns("__pycache__", "out", "out-*")
-
-
+TAKEN = ("CHANGELOG.md", "LICENSE", "VERSION", "contrib", "crates.txt", "dev", "docs", "edge", "examples", "feed", "pyproject.toml", "scripts", "tests", "tools")
 # What a test needs; those of a package need dpkg-deb.
 NEEDED = {"lint_of_the_pages": "mandoc", "lint_of_the_package": "lintian", "services": "systemd-analyze",
           "the_user_of": "systemd-sysusers", "calls_of_the_step": "cc", "calls_of_the_package": "cc", "trusts_no_memory": "cc",
           "calls_of_the_watch": "cc",
           "lint_of_the_edge_pages": "mandoc", "lint_of_the_edge_package": "lintian", "services_of_the_edge": "systemd-analyze",
           "users_of_the_edge": "systemd-sysusers"}
-FOR_ROOT = {"test_let_go", "no_store"}  # Tests that mount.
+FOR_ROOT = {"test_let_go", "no_store", "silent_machines", "never_answered", "hears_nobody", "evictions_that", "answer_again",
+            "commands_that_hang", "of_this_machine", "own_mounts", "words_of_the_fence", "go_of_cephfs", "what_machines_leave",
+            "that_say_no_word"}  # Tests that mount, or have a network.
 # Tests for which the system's folders have to be others.
-IN_OTHER_PLACES = {"as_it_is", "behind_it", "edge_example", "edge_as_it_is_installed", "edge_as_it_is_removed"}
+IN_OTHER_PLACES = {"as_it_is", "behind_it", "edge_example", "edge_as_it_is_installed", "edge_as_it_is_removed", "edge_example_hours",
+                   "edge_second_member"}
 
 
 class Wrong(NamedTuple):
@@ -41,18 +41,8 @@ class Wrong(NamedTuple):
 
     def put(self, root: str, folder: str) -> str:
         """Makes a copy of what tests/package needs in this folder that is wrong so, and gives the test's path there."""
-        for name in TAKEN:
-            path = os.path.join(root, name)
-            if os.path.isdir(path):
-                shutil.copytree(path, os.path.join(folder, name), ignore=NOT_TAKEN)
-            else:
-                shutil.copy(path, folder)
-        with open(os.path.join(folder, self.file), encoding="utf-8") as file:
-            text = file.read()
-        if text.count(self.old) != 1:
-            raise ValueError(f"{self.old!r} stands {text.count(self.old)} times in {self.file}")
-        with open(os.path.join(folder, self.file), "w", encoding="utf-8") as file:
-            file.write(text.replace(self.old, self.new))
+        checks.copy_there(root, TAKEN, folder)
+        checks.change(os.path.join(folder, self.file), self.old, self.new)
         return os.path.join(folder, "tests/package")
 
 
@@ -60,11 +50,27 @@ VENUED, REPLAY, GIKVAND, JOURNAL = (f"contrib/man/{it}" for it in ("venued.8", "
 SERVICE, SERVICES = "contrib/venued.service", "contrib/venued@.service"
 STEP, SERVE, SETTINGS, STANDBY, LET_GO = (f"contrib/standby/{it}" for it in ("before-start", "serve", "volume-settings", "venued@.conf",
                                                                              "let-go"))
-SCRIPT, COMPLETION = "scripts/package", "contrib/gikvand.bash"
+FENCE, CEPH_SETTINGS, DRILL_CEPH = "contrib/standby/fence-ceph", "contrib/standby/ceph-settings", "dev/drill_ceph.py"
+DRILL_CONTRACT, DRILL_STORE = "dev/drill_contract.py", "dev/drill_store.py"
+OPERATING, RECIPE = "docs/OPERATING.md", "contrib/container/Containerfile"
+SCRIPT, COMMANDS, COMPLETION, RELEASE = "scripts/package", "scripts/commands_page.py", "contrib/gikvand.bash", "scripts/release"
 EDGE_PAGE, EDGE_SETTINGS, EDGE_LIST = "contrib/man/gikvand-edge.8", "docs/EDGE.md", "scripts/settings_page.py"
 EDGE_SERVICE, EDGE_USERS, DROP_IN = (f"contrib/edge/{it}" for it in ("gikvand-edge@.service", "gikvand-edge.sysusers", "venued-edge.conf"))
 EDGE_CONTROL, EDGE_POSTINST, EDGE_PRERM, EDGE_POSTRM = (f"contrib/edge/debian/{it}" for it in ("control", "postinst", "prerm", "postrm"))
 WRONG = {
+    "a release of what no commit has": Wrong(RELEASE, 'if changed := line_of("git", "status", "--porcelain"):', 'if changed := "":', "no_commit_has"),
+    "a release of files that git doesn't know": Wrong(RELEASE, '"--porcelain"', '"--porcelain", "--untracked-files=no"', "no_commit_has"),
+    "a release of a crate without a verdict": Wrong(RELEASE, "if it not in found]:", "if False]:", "verdicts_that_lack"),
+    "a release of what failed": Wrong(RELEASE, "if not PASSED.fullmatch(", "if PASSED.fullmatch(", "verdicts_that_lack"),
+    "a verdict of the crate's tests": Wrong(RELEASE, "if not head[2] and (it := ", "if (it := ", "verdicts_that_lack"),
+    "nothing that the prover trusts": Wrong(RELEASE, 'if word.endswith("=trusted")]', "if False]", "a_release"),
+    "programs as they were built alone": Wrong(RELEASE, 'programs[name]["packaged"] = came', "pass", "a_release"),
+    "an archive of its hour": Wrong(RELEASE, "gzip.compress(archive, 9, mtime=0)", "gzip.compress(archive, 9)", "a_release"),
+    "sources without the last": Wrong(RELEASE, "for it in names if it}", "for it in names[1:] if it}", "a_release"),
+    "sums without the manifest": Wrong(RELEASE, "for it in sorted(files))", "for it in sorted(files[:-1]))", "a_release"),
+    "a release without the feed": Wrong(RELEASE, '("--edge",), ("--feed",))', '("--edge",))', "a_release"),
+    "verdicts that are made once more": Wrong(RELEASE, "    if verdicts:\n", "    if False:\n", "verdicts_of_before"),
+    "a program that isn't built": Wrong(RELEASE, "if not os.access(it, os.X_OK)]", "if False]", "no_commit_has"),
     "words in another order": Wrong(VENUED, ".Ar PORT JOURNAL GATEWAYS", ".Ar JOURNAL PORT GATEWAYS", "usages"),
     "a word too few": Wrong(REPLAY, " Ns | Ns Cm check\n", "\n", "usages"),
     "more ports": Wrong(VENUED, "1 to 65528", "1 to 65535", "words_of_the_programs"),
@@ -74,15 +80,27 @@ WRONG = {
     "a line too few": Wrong(VENUED, ".It venued: no memory\n", "", "lines_on_standard_error"),
     "a line that no program says": Wrong(REPLAY, "journal fault 46", "journal fault 47", "lines_on_standard_error"),
     "a line with another status": Wrong(VENUED, "Status 2: a write", "Status 1: a write", "lines_on_standard_error"),
-    "an option too few": Wrong(GIKVAND, ".Ss follow Oo Fl -once Oc Ar", ".Ss follow Ar", "commands_of_gikvand"),
-    "an option told otherwise": Wrong(GIKVAND, "Only trades behind", "Only trades before", "commands_of_gikvand"),
-    "a request too few": Wrong(GIKVAND, "cancel ORDER\n", "", "commands_of_gikvand"),
+    "an option too few": Wrong(COMMANDS, "and not is_common(it)]", "and it.nargs is None and not is_common(it)]", "commands_of_gikvand"),
+    "an option told otherwise": Wrong(COMMANDS, "{words[1:]}.", "{words[1:20]}.", "commands_of_gikvand"),
+    "a request too few": Wrong(COMMANDS, '"\\\\e").splitlines()', '"\\\\e").splitlines()[:-1]', "commands_of_gikvand"),
+    "a paragraph too few": Wrong(COMMANDS, '.split("\\n\\n")):', '.split("\\n\\n")[:2]):', "commands_of_gikvand"),
+    "an option that has to stand there": Wrong(COMMANDS, 'f"Oo {words} Oc" if', "words if", "commands_of_gikvand"),
+    "options beside one another": Wrong(COMMANDS, '" | ".join(', '" ".join(', "commands_of_gikvand"),
+    "an option of all, by each": Wrong(COMMANDS, "return it.help == common._actions[-1].help", "return False", "commands_of_gikvand"),
+    "examples in one line": Wrong(COMMANDS, '        if part.startswith(" "):\n', "        if False:\n", "commands_of_gikvand"),
+    "an image that starts nothing": Wrong(RECIPE, " && systemctl enable venued", "", "recipe_of_containers"),
+    "an image without the edge": Wrong(RECIPE, " /root/gikvand-edge_*_amd64.deb && ", " && ", "recipe_of_containers"),
+    "a page without its commands": Wrong(SCRIPT, 'commands_page.filled(contents(f"contrib/man/{name}").decode()).encode()',
+                                         'contents(f"contrib/man/{name}")', "files_of_the_package"),
     "a journal of another version": Wrong(JOURNAL, "00 00 00 03 00", "00 00 00 02 00", "the_page_of"),
     "longer messages": Wrong(JOURNAL, "1 to 320 Ta its", "1 to 321 Ta its", "the_page_of"),
     "a list without an end": Wrong(VENUED, ".It 128 + n\nSignal n ended it, as a shell says it.\n.El\n", "", "lint_of_the_pages"),
     "an option that isn't completed": Wrong(COMPLETION, "--prometheus --quick", "--prometheus", "completed"),
     "a command that isn't completed": Wrong(COMPLETION, '    [day]=""\n', "", "completed"),
-    "values as options": Wrong(COMPLETION, "--symbols:* | --after:* | --port:* | ", "", "completed"),
+    "values as options": Wrong(COMPLETION, '    elif [[ $_gikvand_valued == *" $before "* ]]; then\n        return\n', "", "completed"),
+    "values as words": Wrong(COMPLETION, '-*) [[ $_gikvand_valued == *" ${words[at]} "* ]] && ((at += 1)) ;;', "-*) ;;", "completed"),
+    "files that aren't completed": Wrong(COMPLETION, " --journal --password-file --sources ", " --password-file --sources ", "completed"),
+    "values behind a sign": Wrong(COMPLETION, "        before=${begun%%=*} begun=${begun#*=}\n", "        before=${begun%%=*}\n", "completed"),
     "symbols that bash does": Wrong(COMPLETION, "$symbol =~ ^[A-Z0-9]{1,8}$ && ", "", "completed"),
     "symbols twice": Wrong(COMPLETION, '&& " $* " != *" $symbol "* ', "", "completed"),
     "a program without completion": Wrong(COMPLETION, "complete -F _venued venued\n", "", "completed"),
@@ -102,9 +120,18 @@ WRONG = {
     "files of all rights": Wrong(SCRIPT, "TEXT, PROGRAM, FOLDER = 0o644", "TEXT, PROGRAM, FOLDER = 0o666", "files_of"),
     "a module too few": Wrong(SCRIPT, 'if name.endswith((".py", ".html")):', 'if name.endswith(".html"):', "files_of"),
     "a page too few": Wrong(SCRIPT, 'if name.endswith((".py", ".html")):', 'if name.endswith(".py"):', "files_of"),
-    "a line that the runbook hasn't": Wrong("docs/OPERATING.md", "`COPY is the journal itself`, ", "", "the_runbook"),
-    "an alarm that the runbook hasn't": Wrong("docs/OPERATING.md", " (`member_unsent_bytes`) |", " |", "the_runbook"),
-    "a fault that the runbook hasn't": Wrong("docs/OPERATING.md", "| `venue-replay: NEW exists` | give another name |\n", "", "the_runbook"),
+    "a line that the runbook hasn't": Wrong(OPERATING, "`COPY is the journal itself`, ", "", "the_runbook"),
+    "an alarm that the runbook hasn't": Wrong(OPERATING, " (`member_unsent_bytes`) |", " |", "the_runbook"),
+    "a fault that the runbook hasn't": Wrong(OPERATING, "| `NEW exists` | `venue-replay` | 1 | nothing was written: give another name |\n",
+                                             "", "lines_on_standard_error"),
+    "a fault of another program": Wrong(OPERATING, "| `NEW exists` | `venue-replay` |", "| `NEW exists` | `venue-events` |",
+                                        "lines_on_standard_error"),
+    "another status in the runbook": Wrong(OPERATING, "| `journal failed` | `venued` | 2 |", "| `journal failed` | `venued` | 1 |",
+                                           "lines_on_standard_error"),
+    "a line elsewhere that no program says": Wrong(OPERATING, "`venued: ready, ..`", "`venued: no reason`", "lines_on_standard_error"),
+    "a status that no program has": Wrong(OPERATING, "| signal n ended it | | | |", "| signal n ended it | as there | | |", "statuses"),
+    "statuses of other programs": Wrong(OPERATING, "| status | `venued` | `venue-replay` |", "| status | `venue-replay` | `venued` |",
+                                        "statuses"),
     "a release too few": Wrong(SCRIPT, "heads = list(RELEASE.finditer(text))", "heads = list(RELEASE.finditer(text))[:-1]",
                                "the_changelog"),
     "changes of one line alone": Wrong(SCRIPT, "(.*(?:\\n  .*)*)", "(.*\\.)$", "the_changelog"),
@@ -134,8 +161,39 @@ WRONG = {
     "a venue that may stay": Wrong(SERVE, 'goes "$1" || let_go', 'goes "$1"', "a_venue_that_stays"),
     "a client that is ended anyway": Wrong(SERVE, 'goes "$1" || let_go', "let_go", "a_venue_that_stays"),
     "a client that goes on": Wrong(LET_GO, "os.kill(pid, signal.SIGKILL)", "os.kill(pid, 0)", "test_let_go"),
-    "a mount that stays away": Wrong(LET_GO, "while is_in_fstab(mount) and not mounts(mount):", "while False:", "test_let_go"),
+    "a mount that stays away": Wrong(LET_GO, "while kind and not mounts(mount):", "while False:", "test_let_go"),
     "any mount": Wrong(LET_GO, 'if it[it.index("-") + 1].startswith("fuse")', "", "no_store"),
+    "a fence for who never answered": Wrong(FENCE, "elif self.heard is not None and time.monotonic() - self.heard >= SILENCE and not self",
+                                            "elif not self",
+                                            "never_answered"),
+    "a fence of the own machine": Wrong(FENCE, "if it.name != own]", "]", "silent_machines"),
+    "a fence of one time": Wrong(FENCE, "                self.heard = None\n                self.is_silent.clear()\n",
+                                 "                return\n", "silent_machines"),
+    "a fence of who is alone": Wrong(FENCE, "any(it.is_heard for it in others) and ", "", "hears_nobody"),
+    "clients that are left": Wrong(FENCE, "name not in machines_in(left)", "True", "evictions_that"),
+    "an eviction that is tried once": Wrong(FENCE, "            else:\n                time.sleep(PAUSE)\n", "            else:\n"
+                                            "                return\n", "evictions_that"),
+    "an eviction of who answers": Wrong(FENCE, " or is_silent and not is_silent.is_set():", ":", "answer_again"),
+    "a fence that one wrong answer ends": Wrong(FENCE, "except (OSError, ValueError) as why:", "except OSError as why:", "that_say_no_word"),
+    "a command that hangs": Wrong(FENCE, "if time.monotonic() > end or", "if", "commands_that_hang"),
+    "a mount that is let go of by any fault": Wrong(FENCE, "if why.errno == errno.ESHUTDOWN:", "if True:", "of_this_machine"),
+    "a mount that stays dead": Wrong(FENCE, "errno.ESHUTDOWN:", "errno.ENOTCONN:", "of_this_machine"),
+    "own mounts that nobody looks for": Wrong(FENCE, "if any(evicted(server, own) for _ in range(TRIES)) else 1", "if True else 1",
+                                              "own_mounts"),
+    "names of anything": Wrong(FENCE, "if not NAME.fullmatch(self.name):", "if False:", "words_of_the_fence"),
+    "any file system": Wrong(FENCE, 'return f"mds.{found[1]}:0" if found else "mds.0"', 'return "mds.0"', "own_mounts"),
+    "an old mount that keeps the lock": Wrong(LET_GO, 'if kind == "fuse.ceph":', "if False:", "go_of_cephfs"),
+    "a fence with an end": Wrong(CEPH_SETTINGS, "mon_osd_blocklist_default_expire = 315360000\n", "", "settings_of_the_page"),
+    "a setting that can't be left out": Wrong(DRILL_CEPH, '        lines[at] = f"{name} = {value}"\n', "        pass\n",
+                                              "settings_of_the_drill"),
+    "copies that aren't whole": Wrong(DRILL_CEPH, '>= {"active", "clean"}', '>= {"active"}', "what_ceph_says"),
+    "a status that is taken from who waits for it": Wrong(DRILL_CONTRACT, ' and len(told["NSpid"].split()) > 1', "", "what_machines_leave"),
+    "a machine that can't end": Wrong(DRILL_CONTRACT, 'told["State"].split()[0] == "Z"', "False", "what_machines_leave"),
+    "a plant that any fault shows": Wrong(DRILL_STORE, 'LIVES_ON = "says \'status 137\': not within "', 'LIVES_ON = ": not within "',
+                                          "what_plants_tell"),
+    "an answer of a daemon's in one piece": Wrong(DRILL_CEPH, 'with ends.makefile("rb") as came:', 'with ends.makefile("rb", 0) as came:',
+                                                  "what_a_daemon_answers"),
+    "a write that one has": Wrong(DRILL_CEPH, '{"op_commit", "sub_op_commit_rec"} <=', '{"op_commit"} <=', "what_ceph_says"),
     "two kilobytes alone": Wrong(STEP, "LAST = 2 << 20", "LAST = 2 << 10", "calls_of_the_step"),
     "a lock that others share": Wrong(STEP, "fcntl.LOCK_EX | fcntl.LOCK_NB", "fcntl.LOCK_SH | fcntl.LOCK_NB", "step_beside"),
     "the end of a gigabyte": Wrong(STEP, "start + first\n", "(start + first) % (1 << 30)\n", "step_of_a_long"),
@@ -160,12 +218,20 @@ WRONG = {
     "a default that is another one": Wrong(EDGE_SETTINGS, "| 20000 |", "| 10000 |", "edge_defaults"),
     "an example with a name that isn't known": Wrong("contrib/edge/examples/C1.cfg", "SocketAcceptPort=", "AcceptPort=",
                                                      "edge_example"),
+    "an example without weekends": Wrong("contrib/edge/examples/C1.cfg", "#StartDay=Monday\n#EndDay=Saturday",
+                                         "StartDay=Monday\nEndDay=Saturday", "edge_example_hours"),
+    "a second member at the first one's port": Wrong(EDGE_SETTINGS, "; s/9801/9802/'", "'", "edge_second_member"),
+    "a second member by the first one's name": Wrong(EDGE_SETTINGS, "s/DESK-A/DESK-B/; ", "", "edge_second_member"),
+    "links as they are in the sources": Wrong(SCRIPT, 'LINK.sub(led, data.decode()).encode() if name.endswith(".md") else data', "data",
+                                              "edge_links"),
+    "links from the root": Wrong(SCRIPT, "os.path.relpath(LED_TO[target], os.path.dirname(place))", "LED_TO[target]", "edge_links"),
+    "pages that nothing has": Wrong(SCRIPT, '    "docs/MEASURED.md": f"{DOC}/MEASURED.md",\n', "", "edge_links"),
     "an example of a stunnel for anybody": Wrong("edge/stunnel/member.conf", "verifyPeer = yes", "verifyPeer = no", "edge_example"),
     "an edge without its dictionary": Wrong(SCRIPT, '    "edge/FIX44-edge.xml": f"{EDGE_SHARE}/FIX44-edge.xml",\n', "", "edge_example"),
     "several venues that stay closed": Wrong(SCRIPT, 'for it in ("venued", "venued@")]', 'for it in ("venued",)]', "files_of_the_edge"),
     "a page of the edge too few": Wrong(SCRIPT, 'EDGE_PAGES = ("gikvand-edge.8", "gikvand-edge.cfg.5")',
                                         'EDGE_PAGES = ("gikvand-edge.8",)', "files_of_the_edge"),
-    "the venue in the place of the edge": Wrong(SCRIPT, "OF_THE_EDGE if given.edge else VENUE", "VENUE", "files_of_the_edge"),
+    "the venue in the place of the edge": Wrong(SCRIPT, "OF_THE_EDGE if given.edge else", "VENUE if given.edge else", "files_of_the_edge"),
     "an edge of any release": Wrong(EDGE_CONTROL, "gikvand (= @VERSION@)", "gikvand", "needs_of_the_edge"),
     "a library too few": Wrong(SCRIPT, "for it in sorted(names))", "for it in sorted(names)[1:])", "needs_of_the_edge"),
     "a release of the edge alone": Wrong(EDGE_CONTROL, "Source: gikvand\n", "", "changelog_of_the_edge"),

@@ -13,6 +13,7 @@ import socket
 import subprocess
 import sys
 import threading
+from collections.abc import Callable
 
 ROOT = os.path.dirname(os.path.dirname(os.path.abspath(__file__)))
 sys.path.insert(0, os.path.join(ROOT, "dev"))
@@ -32,7 +33,7 @@ def sealed(text: bytes) -> bytes:
     return head + b"10=%03d\x01" % (sum(head) % 256)
 
 
-def with_field(message: bytes, tag: bytes, change) -> bytes:
+def with_field(message: bytes, tag: bytes, change: Callable[[bytes], bytes]) -> bytes:
     """A message whose first field of this tag is changed."""
     return sealed(re.sub(rb"(?<=\x01%s=)[^\x01]*(?=\x01)" % tag, lambda it: change(it[0]), message[:-7], count=1))
 

@@ -1,17 +1,16 @@
 """Wrong rules for journals and snapshots, each of which a test that compares has to tell from the right ones. Not a test:
 tests import it. A wrong rule is a function, a method or a constant of the right ones that is another one."""
+from collections.abc import Callable
 from contextlib import AbstractContextManager
 from typing import NamedTuple
 from unittest import mock
 
-import book_rules
-import replay_rules
-import snapshot_rules
-from book_rules import Book, Order
-from gikvand import journals, rules
+from gikvand import journals
 from gikvand.journals import Entry, Journal, Snapshot
-from replay_rules import Replayer, Symbols, counts, fault, shown
-from snapshot_rules import BadSnapshot
+from oracle import book_rules, order_rules, replay_rules, snapshot_rules
+from oracle.book_rules import Book, Order, shown
+from oracle.replay_rules import Replayer, Symbols, counts, fault
+from oracle.snapshot_rules import BadSnapshot
 
 # That of lengths and that of too many commands aren't among them: no journal has such a snapshot.
 CONDITIONS = ("orders", "outputs", "greatest name", "symbol", "side", "client", "name", "price", "total", "filled", "paid",
@@ -162,7 +161,7 @@ def reports_of_replay(self: Replayer, name: str, word: str, symbols: Symbols) ->
     return [*(f"35={it.kind}|52={shown(it.when)}|{shown(it.body)}" for it in mine), counts(self.replay(journal, symbols))]
 
 
-def carried(cut: int | None, size: int, version: int = 3):
+def carried(cut: int | None, size: int, version: int = 3) -> Callable[[Replayer, Journal], bytes]:
     """An old journal carried over with this cut, or so many below the right one, in blocks of this size."""
     def carry(_self: Replayer, journal: Journal) -> bytes:
         right = len(journal.entries) if journal.version == 1 else 0
@@ -225,7 +224,7 @@ WRONG = {
     "messages of no bytes": Wrong(journals, "LENGTHS", range(321)),
     "a ninth gateway": Wrong(journals, "MEMBERS", range(1, 10)),
     "a greater cut": Wrong(journals, "MOST_ENTRIES", 2 ** 64),
-    "market orders in old journals": Wrong(rules, "MARKET_NEEDED", rules.NEEDED[b"D"]),
+    "market orders in old journals": Wrong(order_rules, "MARKET_NEEDED", order_rules.NEEDED[b"D"]),
     "no market orders": Wrong(book_rules, "asks_for_market", lambda _kind, _found: False),
     "the newest order first": Wrong(book_rules, "turn_of", newest_first),
 }

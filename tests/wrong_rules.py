@@ -1,14 +1,15 @@
 """Wrong rules for a member's bytes and for the book, each of which the test that compares has to tell from the right ones.
-Not a test: tests import it. A wrong rule is a text of rules.py or book_rules.py, standing there once, that is another one."""
+Not a test: tests import it. A wrong rule is a text of one of their modules, standing there once, that is another one."""
 import sys
 import types
 from typing import NamedTuple
 from unittest import mock
 
-import book_rules
-from gikvand import rules
+from checks import with_another
+from gikvand import fix
+from oracle import book_rules, order_rules, session_rules
 
-FILES = {"gikvand.rules": rules.__file__, "book_rules": book_rules.__file__}  # Each stands on those before it.
+FILES = {it.__name__: str(it.__file__) for it in (fix, order_rules, book_rules, session_rules)}  # Each stands on those before it.
 
 
 class Wrong(NamedTuple):
@@ -28,123 +29,127 @@ class Wrong(NamedTuple):
 
     def put(self, name: str, text: str) -> str:
         """The text of a module with the other one in its place."""
-        if name != self.file:
-            return text
-        if text.count(self.old) != 1:
-            raise ValueError(f"{self.old!r} stands {text.count(self.old)} times in {name}.py")
-        return text.replace(self.old, self.new)
+        return with_another(text, self.old, self.new, name) if name == self.file else text
 
 
-def of_bytes(old: str, new: str) -> Wrong:
-    return Wrong("gikvand.rules", old, new)
+def of_frame(old: str, new: str) -> Wrong:
+    return Wrong("gikvand.fix", old, new)
+
+
+def of_order(old: str, new: str) -> Wrong:
+    return Wrong("oracle.order_rules", old, new)
+
+
+def of_session(old: str, new: str) -> Wrong:
+    return Wrong("oracle.session_rules", old, new)
 
 
 def of_book(old: str, new: str) -> Wrong:
-    return Wrong("book_rules", old, new)
+    return Wrong("oracle.book_rules", old, new)
 
 
 BYTES = {
-    "tags of six digits": of_bytes("[1-9][0-9]{0,4}", "[1-9][0-9]{0,5}"),
-    "tags of four digits at most": of_bytes("[1-9][0-9]{0,4}", "[1-9][0-9]{0,3}"),
-    "tags with a leading zero": of_bytes("[1-9][0-9]{0,4}", "[0-9]{1,5}"),
-    "numbers with leading zeros": of_bytes('rb"0|[1-9][0-9]*"', 'rb"[0-9]+"'),
-    "numbers with a sign": of_bytes('rb"0|[1-9][0-9]*"', 'rb"[+-]?(?:0|[1-9][0-9]*)"'),
-    "times of any digits' form": of_bytes('rb"[0-9]{8}-[0-9]{2}', 'rb".{8}.[0-9]{2}'),
-    "times with milliseconds": of_bytes(':[0-9]{2}")\nSYMBOL', ':[0-9]{2}(?:[.][0-9]{3})?")\nSYMBOL'),
-    "symbols of nine bytes": of_bytes("[A-Z0-9]{1,8}", "[A-Z0-9]{1,9}"),
-    "symbols of seven bytes at most": of_bytes("[A-Z0-9]{1,8}", "[A-Z0-9]{1,7}"),
-    "symbols of small letters": of_bytes("[A-Z0-9]{1,8}", "[A-Za-z0-9]{1,8}"),
-    "symbols without digits": of_bytes("[A-Z0-9]{1,8}", "[A-Z]{1,8}"),
-    "another version": of_bytes('b"8=FIX.4.4\\x01"\nHEAD', 'b"8=FIX.4.2\\x01"\nHEAD'),
-    "no time that isn't zeros": of_bytes("00000000-00:00:00", "00000000-00:00:01"),
-    "a header in another order": of_bytes("HEADER = [8, 9, 35, 49, 56, 34, 52]", "HEADER = [8, 9, 35, 34, 49, 56, 52]"),
-    "a Logon with a heartbeat": of_bytes('(108, b"0")', '(108, b"30")'),
-    "quantities of 0": of_bytes("UNITS = range(1,", "UNITS = range(0,"),
-    "quantities above a million": of_bytes("range(1, 1_000_001)", "range(1, 1_000_002)"),
-    "quantities below a million": of_bytes("range(1, 1_000_001)", "range(1, 1_000_000)"),
-    "names of 0": of_bytes("NAMES = range(1,", "NAMES = range(0,"),
-    "names of sixteen digits": of_bytes("range(1, 10 ** 15)", "range(1, 10 ** 15 + 1)"),
-    "names below the greatest": of_bytes("range(1, 10 ** 15)", "range(1, 10 ** 15 - 1)"),
-    "OrigClOrdIDs of any size": of_bytes("41: (NUMBER, NAMES)", "41: (NUMBER, None)"),
-    "stop orders": of_bytes('40: (BYTE, (b"2",))', '40: (BYTE, (b"2", b"3"))'),
-    "a third side": of_bytes('54: (BYTE, (b"1", b"2"))', '54: (BYTE, (b"1", b"2", b"3"))'),
-    "no sells": of_bytes('54: (BYTE, (b"1", b"2"))', '54: (BYTE, (b"1",))'),
-    "no immediate or cancel": of_bytes('59: (BYTE, (b"0", b"3", b"4"))', '59: (BYTE, (b"0", b"4"))'),
-    "no fill or kill": of_bytes('59: (BYTE, (b"0", b"3", b"4"))', '59: (BYTE, (b"0", b"3"))'),
-    "no day orders by name": of_bytes('59: (BYTE, (b"0", b"3", b"4"))', '59: (BYTE, (b"3", b"4"))'),
-    "good till cancel": of_bytes('59: (BYTE, (b"0", b"3", b"4"))', '59: (BYTE, (b"0", b"1", b"3", b"4"))'),
-    "times of any form in 60": of_bytes("60: (TIME, None)", "60: (re.compile(rb'.+', re.DOTALL), None)"),
-    "a new order without a time": of_bytes('{b"D": {11, 38, 40, 44, 54, 55, 60}', '{b"D": {11, 38, 40, 44, 54, 55}'),
-    "a new order without a price": of_bytes('{b"D": {11, 38, 40, 44, 54', '{b"D": {11, 38, 40, 54'),
-    "a cancel without a quantity": of_bytes('b"F": {11, 38, 41, 54, 55, 60}', 'b"F": {11, 41, 54, 55, 60}'),
-    "a cancel without a side": of_bytes('b"F": {11, 38, 41, 54, 55, 60}', 'b"F": {11, 38, 41, 55, 60}'),
-    "a replace without a price": of_bytes('b"G": {11, 38, 40, 41, 44, 54', 'b"G": {11, 38, 40, 41, 54'),
-    "a replace without OrdType": of_bytes('b"G": {11, 38, 40, 41, 44, 54', 'b"G": {11, 38, 41, 44, 54'),
-    "a new order without terms": of_bytes('{b"D": {59}, b"F"', '{b"D": set(), b"F"'),
-    "a cancel with terms": of_bytes('b"F": set(), b"G"', 'b"F": {59}, b"G"'),
-    "a replace without terms": of_bytes('b"G": {59}}', 'b"G": set()}'),
-    "a market order with a price": of_bytes('NEEDED[b"D"] - {44}', 'NEEDED[b"D"]'),
-    "fields without a value": of_bytes("or not equals or not value", "or not equals"),
-    "fields of a tag alone": of_bytes("or not equals or not value", "or equals and not value"),
-    "another begin is a bad length": of_bytes('"bad begin" if at < len(BEGIN) else "bad length"', '"bad length"'),
-    "another 9= is a bad begin": of_bytes('"bad begin" if at < len(BEGIN) else "bad length"', '"bad begin"'),
-    "a length of 4": of_bytes("int(data[first:at]) < 5", "int(data[first:at]) < 4"),
-    "no length of 5": of_bytes("int(data[first:at]) < 5", "int(data[first:at]) < 6"),
-    "lengths with a leading zero": of_bytes(' or at == first and byte == b"0"', ""),
-    "lengths of 298": of_bytes("> 297:", "> 298:"),
-    "no length of 297": of_bytes("> 297:", "> 296:"),
-    "a length is too long at its end": of_bytes('return at + 1, "too long"', "pass"),
-    "a body without an end": of_bytes("not rest.endswith(b\"\\x01\") or not trailer", "not trailer"),
-    "a trailer of any tag": of_bytes(' or not trailer.startswith(b"10=")', ""),
-    "any checksum": of_bytes('return "bad checksum"', "pass"),
-    "sums without the byte before 10=": of_bytes("(sum(rest) % 256):", "(sum(rest[:-1]) % 256):"),
-    "any first field": of_bytes("if found and found[0][0] == 35 else", "if found else"),
-    "no fault of fields": of_bytes('else "bad field"', "else None if found else 'bad field'"),
-    "replaces that ask for a market": of_bytes('kind == b"D" and [value', "[value"),
-    "twice goes last": of_bytes("for reason, wrong in faults if wrong",
+    "tags of six digits": of_frame("[1-9][0-9]{0,4}", "[1-9][0-9]{0,5}"),
+    "tags of four digits at most": of_frame("[1-9][0-9]{0,4}", "[1-9][0-9]{0,3}"),
+    "tags with a leading zero": of_frame("[1-9][0-9]{0,4}", "[0-9]{1,5}"),
+    "numbers with leading zeros": of_frame('rb"0|[1-9][0-9]*"', 'rb"[0-9]+"'),
+    "numbers with a sign": of_frame('rb"0|[1-9][0-9]*"', 'rb"[+-]?(?:0|[1-9][0-9]*)"'),
+    "times of any digits' form": of_frame('rb"[0-9]{8}-[0-9]{2}', 'rb".{8}.[0-9]{2}'),
+    "times with milliseconds": of_frame(':[0-9]{2}")\nBEGIN', ':[0-9]{2}(?:[.][0-9]{3})?")\nBEGIN'),
+    "symbols of nine bytes": of_order("[A-Z0-9]{1,8}", "[A-Z0-9]{1,9}"),
+    "symbols of seven bytes at most": of_order("[A-Z0-9]{1,8}", "[A-Z0-9]{1,7}"),
+    "symbols of small letters": of_order("[A-Z0-9]{1,8}", "[A-Za-z0-9]{1,8}"),
+    "symbols without digits": of_order("[A-Z0-9]{1,8}", "[A-Z]{1,8}"),
+    "another version": of_frame('b"8=FIX.4.4\\x01"\nHEAD', 'b"8=FIX.4.2\\x01"\nHEAD'),
+    "no time that isn't zeros": of_session("00000000-00:00:00", "00000000-00:00:01"),
+    "a header in another order": of_frame("HEADER = [8, 9, 35, 49, 56, 34, 52]", "HEADER = [8, 9, 35, 34, 49, 56, 52]"),
+    "a Logon with a heartbeat": of_session('(108, b"0")', '(108, b"30")'),
+    "quantities of 0": of_order("UNITS = range(1,", "UNITS = range(0,"),
+    "quantities above a million": of_order("range(1, 1_000_001)", "range(1, 1_000_002)"),
+    "quantities below a million": of_order("range(1, 1_000_001)", "range(1, 1_000_000)"),
+    "names of 0": of_order("NAMES = range(1,", "NAMES = range(0,"),
+    "names of sixteen digits": of_order("range(1, 10 ** 15)", "range(1, 10 ** 15 + 1)"),
+    "names below the greatest": of_order("range(1, 10 ** 15)", "range(1, 10 ** 15 - 1)"),
+    "OrigClOrdIDs of any size": of_order("41: (NUMBER, NAMES)", "41: (NUMBER, None)"),
+    "stop orders": of_order('40: (BYTE, (b"2",))', '40: (BYTE, (b"2", b"3"))'),
+    "a third side": of_order('54: (BYTE, (b"1", b"2"))', '54: (BYTE, (b"1", b"2", b"3"))'),
+    "no sells": of_order('54: (BYTE, (b"1", b"2"))', '54: (BYTE, (b"1",))'),
+    "no immediate or cancel": of_order('59: (BYTE, (b"0", b"3", b"4"))', '59: (BYTE, (b"0", b"4"))'),
+    "no fill or kill": of_order('59: (BYTE, (b"0", b"3", b"4"))', '59: (BYTE, (b"0", b"3"))'),
+    "no day orders by name": of_order('59: (BYTE, (b"0", b"3", b"4"))', '59: (BYTE, (b"3", b"4"))'),
+    "good till cancel": of_order('59: (BYTE, (b"0", b"3", b"4"))', '59: (BYTE, (b"0", b"1", b"3", b"4"))'),
+    "times of any form in 60": of_order("60: (TIME, None)", "60: (re.compile(rb'.+', re.DOTALL), None)"),
+    "a new order without a time": of_order('{b"D": {11, 38, 40, 44, 54, 55, 60}', '{b"D": {11, 38, 40, 44, 54, 55}'),
+    "a new order without a price": of_order('{b"D": {11, 38, 40, 44, 54', '{b"D": {11, 38, 40, 54'),
+    "a cancel without a quantity": of_order('b"F": {11, 38, 41, 54, 55, 60}', 'b"F": {11, 41, 54, 55, 60}'),
+    "a cancel without a side": of_order('b"F": {11, 38, 41, 54, 55, 60}', 'b"F": {11, 38, 41, 55, 60}'),
+    "a replace without a price": of_order('b"G": {11, 38, 40, 41, 44, 54', 'b"G": {11, 38, 40, 41, 54'),
+    "a replace without OrdType": of_order('b"G": {11, 38, 40, 41, 44, 54', 'b"G": {11, 38, 41, 44, 54'),
+    "a new order without terms": of_order('{b"D": {59}, b"F"', '{b"D": set(), b"F"'),
+    "a cancel with terms": of_order('b"F": set(), b"G"', 'b"F": {59}, b"G"'),
+    "a replace without terms": of_order('b"G": {59}}', 'b"G": set()}'),
+    "a market order with a price": of_order('NEEDED[b"D"] - {44}', 'NEEDED[b"D"]'),
+    "fields without a value": of_frame("or not equals or not value", "or not equals"),
+    "fields of a tag alone": of_frame("or not equals or not value", "or equals and not value"),
+    "another begin is a bad length": of_frame('"bad begin" if at < len(BEGIN) else "bad length"', '"bad length"'),
+    "another 9= is a bad begin": of_frame('"bad begin" if at < len(BEGIN) else "bad length"', '"bad begin"'),
+    "a length of 4": of_frame("int(data[first:at]) < 5", "int(data[first:at]) < 4"),
+    "no length of 5": of_frame("int(data[first:at]) < 5", "int(data[first:at]) < 6"),
+    "lengths with a leading zero": of_frame(' or at == first and byte == b"0"', ""),
+    "lengths of 298": of_frame("> 297:", "> 298:"),
+    "no length of 297": of_frame("> 297:", "> 296:"),
+    "a length is too long at its end": of_frame('return at + 1, "too long"', "pass"),
+    "a body without an end": of_frame("not rest.endswith(b\"\\x01\") or not trailer", "not trailer"),
+    "a trailer of any tag": of_frame(' or not trailer.startswith(b"10=")', ""),
+    "any checksum": of_frame('return "bad checksum"', "pass"),
+    "sums without the byte before 10=": of_frame("(sum(rest) % 256):", "(sum(rest[:-1]) % 256):"),
+    "any first field": of_frame("if found and found[0][0] == 35 else", "if found else"),
+    "no fault of fields": of_frame('else "bad field"', "else None if found else 'bad field'"),
+    "replaces that ask for a market": of_order('kind == b"D" and [value', "[value"),
+    "twice goes last": of_order("for reason, wrong in faults if wrong",
                                 "for reason, wrong in faults[1:] + faults[:1] if wrong"),
-    "no fault of a tag twice": of_bytes("if tags.count(tag) > 1}", "if tags.count(tag) > 2}"),
-    "no fault of a tag twice in the header": of_bytes("{tag for tag in tags if tags.count(tag) > 1}",
+    "no fault of a tag twice": of_order("if tags.count(tag) > 1}", "if tags.count(tag) > 2}"),
+    "no fault of a tag twice in the header": of_order("{tag for tag in tags if tags.count(tag) > 1}",
                                                       "{tag for tag in tags if tags.count(tag) > 1 and tag not in HEADER}"),
-    "no fault of a foreign tag": of_bytes("(2, given - needed - ALLOWED[kind])", "(2, set())"),
-    "no fault of a missing tag": of_bytes("(1, needed - given)", "(1, set())"),
-    "a missing tag before a foreign one": of_bytes("              (2, given - needed - ALLOWED[kind]),\n"
+    "no fault of a foreign tag": of_order("(2, given - needed - ALLOWED[kind])", "(2, set())"),
+    "no fault of a missing tag": of_order("(1, needed - given)", "(1, set())"),
+    "a missing tag before a foreign one": of_order("              (2, given - needed - ALLOWED[kind]),\n"
                                                    "              (1, needed - given),\n",
                                                    "              (1, needed - given),\n"
                                                    "              (2, given - needed - ALLOWED[kind]),\n"),
-    "no fault of a format": of_bytes("(6, {tag for tag, value in own if tag in formats and not",
+    "no fault of a format": of_order("(6, {tag for tag, value in own if tag in formats and not",
                                      "(6, {tag for tag, value in own if tag in formats and False and not"),
-    "no fault of a range": of_bytes("(5, {tag for tag, value in own if tag in formats and not",
+    "no fault of a range": of_order("(5, {tag for tag, value in own if tag in formats and not",
                                     "(5, {tag for tag, value in own if tag in formats and False and not"),
-    "the range before the format": of_bytes("for reason, wrong in faults if wrong",
+    "the range before the format": of_order("for reason, wrong in faults if wrong",
                                             "for reason, wrong in faults[:3] + faults[:2:-1] if wrong"),
-    "the greatest faulty tag": of_bytes("(reason, min(wrong))", "(reason, max(wrong))"),
-    "a number 0 in the header": of_bytes("1 <= int(told[34])", "0 <= int(told[34])"),
-    "any number in the header": of_bytes("NUMBER.fullmatch(told[34])", "told[34].isdigit()"),
-    "greater numbers in the header": of_bytes("<= 999_999_999", "<= 10 ** 12"),
-    "any time in the header": of_bytes("and TIME.fullmatch(told[52]))", ")"),
-    "any sender": of_bytes('told[49] != b"C1" or ', ""),
-    "any target": of_bytes(' or told[56] != b"VENUE"', ""),
-    "any number of a message": of_bytes("!= self.accepted + 1:", "<= self.accepted:"),
-    "the same number twice": of_bytes("!= self.accepted + 1:", "not in (self.accepted, self.accepted + 1):"),
-    "the number before the party": of_bytes('if told[49] != b"C1"',
-                                            'if int(told[34]) == self.accepted + 1 and told[49] != b"C1"'),
-    "another time in answers": of_bytes("        self.time = told[52]\n        if", "        if"),
-    "sessions without a Logon": of_bytes('not self.is_open and kind != b"A"', "False"),
-    "a second Logon": of_bytes("if self.is_open or own != LOGON", "if own != LOGON"),
-    "any Logon": of_bytes("if self.is_open or own != LOGON", "if self.is_open"),
-    "a Logon without an answer": of_bytes('return self.answer("A", body("98=0|108=0|141=Y|"))', "return None"),
-    "a test of any tag": of_bytes("or own[0][0] != 112 ", ""),
-    "a test of two fields": of_bytes("len(own) != 1 or", "not own or"),
-    "a test of 33 bytes": of_bytes("len(own[0][1]) > 32", "len(own[0][1]) > 33"),
-    "a test of 31 bytes at most": of_bytes("len(own[0][1]) > 32", "len(own[0][1]) > 31"),
-    "a test answered as a test": of_bytes('self.answer("0", b"112', 'self.answer("1", b"112'),
-    "a Logout that goes on": of_bytes('            return self.end(None)\n', '            return self.answer("5", b"")\n'),
-    "a Logout answered by a text": of_bytes("return self.end(None)", 'return self.end("bye")'),
-    "no Rejects of members": of_bytes('kind in (b"0", b"3")', 'kind in (b"0",)'),
-    "no Heartbeats of members": of_bytes('kind in (b"0", b"3")', 'kind in (b"3",)'),
-    "other types passed over": of_bytes(' else self.end("bad type")', " else None"),
-    "a fault that goes on": of_bytes("        self.has_ended = True\n", "        self.has_ended = text != 'bad type'\n"),
+    "the greatest faulty tag": of_order("(reason, min(wrong))", "(reason, max(wrong))"),
+    "a number 0 in the header": of_frame("1 <= int(told[34])", "0 <= int(told[34])"),
+    "any number in the header": of_frame("NUMBER.fullmatch(told[34])", "told[34].isdigit()"),
+    "greater numbers in the header": of_frame("<= 999_999_999", "<= 10 ** 12"),
+    "any time in the header": of_frame("and TIME.fullmatch(told[52]))", ")"),
+    "any sender": of_session('told[49] != b"C1" or ', ""),
+    "any target": of_session(' or told[56] != b"VENUE"', ""),
+    "any number of a message": of_session("!= self.accepted + 1:", "<= self.accepted:"),
+    "the same number twice": of_session("!= self.accepted + 1:", "not in (self.accepted, self.accepted + 1):"),
+    "the number before the party": of_session('if told[49] != b"C1"',
+                                              'if int(told[34]) == self.accepted + 1 and told[49] != b"C1"'),
+    "another time in answers": of_session("        self.time = told[52]\n        if", "        if"),
+    "sessions without a Logon": of_session('not self.is_open and kind != b"A"', "False"),
+    "a second Logon": of_session("if self.is_open or own != LOGON", "if own != LOGON"),
+    "any Logon": of_session("if self.is_open or own != LOGON", "if self.is_open"),
+    "a Logon without an answer": of_session('return self.answer("A", body("98=0|108=0|141=Y|"))', "return None"),
+    "a test of any tag": of_session("or own[0][0] != 112 ", ""),
+    "a test of two fields": of_session("len(own) != 1 or", "not own or"),
+    "a test of 33 bytes": of_session("len(own[0][1]) > 32", "len(own[0][1]) > 33"),
+    "a test of 31 bytes at most": of_session("len(own[0][1]) > 32", "len(own[0][1]) > 31"),
+    "a test answered as a test": of_session('self.answer("0", b"112', 'self.answer("1", b"112'),
+    "a Logout that goes on": of_session('            return self.end(None)\n', '            return self.answer("5", b"")\n'),
+    "a Logout answered by a text": of_session("return self.end(None)", 'return self.end("bye")'),
+    "no Rejects of members": of_session('kind in (b"0", b"3")', 'kind in (b"0",)'),
+    "no Heartbeats of members": of_session('kind in (b"0", b"3")', 'kind in (b"3",)'),
+    "other types passed over": of_session(' else self.end("bad type")', " else None"),
+    "a fault that goes on": of_session("        self.has_ended = True\n", "        self.has_ended = text != 'bad type'\n"),
 }
 
 BOOK = {

@@ -4,12 +4,16 @@ import os
 import shutil
 from typing import NamedTuple
 
+import checks
 import wrong_package
 
 BUILD, PIN, PLAY, LINT, CHECK, RUN = "scripts/build", "scripts/pin", "dev/play", "dev/lint", "scripts/check", ".ci/run"
 TRADE, DEMO, DAY, CRATES = "tools/gikvand/trade.py", "tools/gikvand/demo.py", "tools/gikvand/day.py", "scripts/crates.py"
-PAGES = {"tests/dictionary.py": "docs/FIX44-gikvand.xml", "tests/promises.py": "docs/PROMISES.md"}
-BY_NAME = {PLAY: "PLAY", LINT: "LINT", CHECK: "CHECK", RUN: "CI_RUN"}  # Files that a test takes by the environment.
+PAGES = {"tests/dictionary.py": ("docs/FIX44-gikvand.xml",), "tests/promises.py": ("docs/CLAUSES.md", "docs/PROMISES.md")}
+MEASURE, FIGURES, RATCHET, WAY, MAKER = "dev/measures", "dev/figures.py", "dev/ratchet.py", "dev/way.py", "dev/pages"
+# Files that a test takes by the environment.
+BY_NAME = {PLAY: "PLAY", LINT: "LINT", CHECK: "CHECK", RUN: "CI_RUN", MAKER: "PAGES",
+           **{it: "MEASURES" for it in (MEASURE, FIGURES, RATCHET, WAY)}}
 
 
 class Wrong(NamedTuple):
@@ -20,36 +24,24 @@ class Wrong(NamedTuple):
     script: str
     tests: str = ""
 
-    def text(self, root: str) -> str:
-        with open(os.path.join(root, self.file), encoding="utf-8") as file:
-            text = file.read()
-        if text.count(self.old) != 1:
-            raise ValueError(f"{self.old!r} stands {text.count(self.old)} times in {self.file}")
-        return text.replace(self.old, self.new)
-
     def put(self, root: str, folder: str) -> tuple[list[str], dict[str, str]]:
         """Makes what is wrong so in this folder: the words of the test that is to refuse it, and its environment."""
-        test, text = os.path.join(root, self.script), self.text(root)
-        path = os.path.join(folder, os.path.basename(self.file))
+        test = os.path.join(root, self.script)
         if self.script in PAGES or self.file in BY_NAME:
-            with open(path, "w", encoding="utf-8") as file:
-                file.write(text)
-            return ([test, path], {}) if self.script in PAGES else ([test, *self.tests.split()], {BY_NAME[self.file]: path})
-        for name in (*wrong_package.TAKEN, "README.md"):
-            there = os.path.join(root, name)
-            if os.path.isdir(there):
-                shutil.copytree(there, os.path.join(folder, name), ignore=wrong_package.NOT_TAKEN)
-            else:
-                shutil.copy(there, folder)
-        with open(os.path.join(folder, self.file), "w", encoding="utf-8") as file:
-            file.write(text)
+            path = shutil.copyfile(os.path.join(root, self.file), os.path.join(folder, os.path.basename(self.file)))
+            checks.change(path, self.old, self.new)
+            if self.script in PAGES:
+                return [test, *(path if it == self.file else os.path.join(root, it) for it in PAGES[self.script])], {}
+            return [test, *self.tests.split()], {BY_NAME[self.file]: path}
+        checks.copy_there(root, (*wrong_package.TAKEN, "README.md"), folder)
+        checks.change(os.path.join(folder, self.file), self.old, self.new)
         return [os.path.join(folder, self.script), *self.tests.split()], {}
 
 
 SHARED = "tests/conftest.py"
 SHARING = "tests/test_conftest.py"
 USERS, PINS, PLAYS, CI = "tests/test_users.py", "tests/test_pin.py", "tests/test_plays.py", "tests/test_ci.py"
-LINTS = "tests/test_lint.py"
+LINTS, MEASURING, DOCUMENTS = "tests/test_lint.py", "tests/test_measures.py", "tests/test_documents.py"
 WRONG = {
     "another line of a fill": Wrong(TRADE, "filled {report['32']} at {report['31']}", "filled {report['31']} at {report['32']}", USERS,
                                     "first_steps"),
@@ -79,8 +71,17 @@ WRONG = {
     "gateways on the unmarshaller's core": Wrong(PIN, "cores[len(STAGES):] or cores[:0:-1] or cores", "cores[len(STAGES):] or cores",
                                                  PINS, "where_they"),
     "a tag of another number": Wrong("docs/FIX44-gikvand.xml", 'number="55"', 'number="9955"', "tests/dictionary.py"),
-    "a wrong body that there isn't": Wrong("docs/PROMISES.md", "`claim_without_processed`, ", "`claim_without_anything`, ",
+    "messages that aren't as they are made": Wrong("docs/FIX44-gikvand.xml", '    <message name="Logon"', '  <message name="Logon"',
+                                                   "tests/dictionary.py"),
+    "a wrong body that there isn't": Wrong("docs/CLAUSES.md", "`claim_without_processed`, ", "`claim_without_anything`, ",
                                            "tests/promises.py"),
+    "a clause that there isn't": Wrong("docs/CLAUSES.md", "(`claimed`, `held`, `refused`)", "(`claimed`, `kept`, `refused`)",
+                                       "tests/promises.py"),
+    "a promise of another title": Wrong("docs/PROMISES.md", "## 9. What a gateway is given is of one history", "## 9. Gateways",
+                                        "tests/promises.py"),
+    "a promise that rests on nothing": Wrong("docs/PROMISES.md", "**Premise**: as in 11.", "More is in 11.", "tests/promises.py"),
+    "a test that there isn't": Wrong("docs/PROMISES.md", "`tests/twins.py`", "`tests/triplets.py`", "tests/promises.py"),
+    "tests of a crate that there isn't": Wrong("docs/PROMISES.md", "`ring_tests` on few rows", "`wheel_tests` on few rows", "tests/promises.py"),
     "files that aren't compared": Wrong(PLAY, "        if came != wanted:\n            raise Failed(f\"expected {name} {dump",
                                         "        if came is None and wanted:\n            raise Failed(f\"expected {name} {dump",
                                         PLAYS, "file"),
@@ -112,6 +113,12 @@ WRONG = {
     "files without an ending": Wrong(LINT, "return bool(FIRST_LINE.match(file.readline(80)))", "return False", LINTS, "findings"),
     "no file is enough": Wrong(LINT, "    if not files:\n", "    if files is None:\n", LINTS, "nothing"),
     "findings that don't count": Wrong(LINT, "    return 1 if failed else 0", "    return 0", LINTS, "unused.py"),
+    "functions without types": Wrong(LINT, "*names.values()))]", "*names.values())) if \"untyped-def\" not in it.what]", LINTS,
+                                     "[untyped.py]"),
+    "an edge's test without types": Wrong(LINT, "*names.values()))]",
+                                          "*names.values())) if not (\"untyped-def\" in it.what and it.file.startswith(\"edge/\"))]",
+                                          LINTS, "untyped_too"),
+    "the longest part last": Wrong(CHECK, "key=took, reverse=True", "key=took", CI, "longest_first"),
     "failures that don't count": Wrong(CHECK, "self.failed + verdict.failed", "self.failed + 0", CI, "parts_that_fail"),
     "failures of those that wait": Wrong(CHECK, "waiting.append(beside.submit(self.run_one, part))",
                                          "waiting.append(beside.submit(self.ran, part, CORES, HEARD))", CI, "that_wait"),
@@ -124,7 +131,7 @@ WRONG = {
                                        "no_part"),
     "a page's test that is left out": Wrong(CHECK, "    Part(\"promises\", ", "    # Part(\"promises\", ", CI, "no_part"),
     "tests that are of no part": Wrong(CHECK, "    Part(\"tools\", ", "    # Part(\"tools\", ", CI, "no_part"),
-    "a least count that was lowered": Wrong(CHECK, "tests/tools\", \"slow built\", 122)", "tests/tools\", \"slow built\", 90)", CI,
+    "a least count that was lowered": Wrong(CHECK, "tests/tools\", \"slow built\", 156)", "tests/tools\", \"slow built\", 90)", CI,
                                             "least_counts"),
     "passes that aren't added": Wrong(CHECK, "self.passed + verdict.passed", "self.passed + 1", CI, "parts_that_fail"),
     "a part of fewer tests": Wrong(CHECK, "if passed + failed < part.least:", "if False:", CI, "parts_of_fewer"),
@@ -145,21 +152,30 @@ WRONG = {
     "parts in another order": Wrong(CHECK, "for part in PARTS:\n                    if part.name in GOT:",
                                     "for part in sorted(PARTS):\n                    if part.name in GOT:", CI, "all_pass"),
     "a setup that fails unseen": Wrong(CHECK, "int(status != 0), f\"status", "0, f\"status", CI, "a_setup"),
-    "an edge that isn't built, and is tested": Wrong(CHECK, "                        has_edge = False\n",
-                                                     "                        has_edge = True\n", CI, "a_setup"),
+    "an edge that isn't built, and is tested": Wrong(CHECK, "lost |= lost_by(part)", "pass", CI, "a_setup"),
+    "programs that aren't built, and are tested": Wrong(CHECK, " if part.name == PROOFS and missing(it)}", " if False}", CI, "proofs_that"),
+    "proofs that fail, and nothing behind them": Wrong(CHECK, " if part.name == PROOFS and missing(it)}", " if part.name == PROOFS}", CI,
+                                                       "proofs_that"),
+    "what the prover refuses, and not why": Wrong(CHECK, "if TELLS.search(it)]", "if False]", CI, "proofs_that"),
+    "one network for all": Wrong(CHECK, "return OWN_NETWORK if debian.succeeds", "return () if debian.succeeds", CI, "a_network"),
+    "a network for all venues together": Wrong(CHECK, 'OWN_NETWORK = ("unshare", "--net", ', 'OWN_NETWORK = ("env", ', CI, "a_network"),
+    "a network without its own address": Wrong(CHECK, "ip link set lo up", "ip link set lo down", CI, "a_network"),
+    "packages from no network": Wrong(CHECK, 'if part.has("built") and not part.has("debian")', 'if part.has("built")', CI, "a_network"),
+    "a machine that isn't told": Wrong(CHECK, 'print(f"check: {machine()}", flush=True)', 'print("check:", flush=True)', CI, "all_pass"),
     "parts that wait in front of all others": Wrong(CHECK, "                    if part.has(\"waits\"):\n", "                    if False:\n", CI,
                                                     "that_wait"),
     "parts that wait all at once": Wrong(CHECK, "with concurrent.futures.ThreadPoolExecutor(1) as", "with concurrent.futures.ThreadPoolExecutor(9) as",
                                          CI, "that_wait"),
-    "an edge beside its setup": Wrong(CHECK, "elif self.run_one(part).failed and part.name == SETUP:",
-                                      "elif part.name == SETUP:\n                        waiting.append(beside.submit(self.run_one, part))\n"
-                                      "                    elif self.run_one(part).failed and part.name == SETUP:", CI, "a_setup"),
-    "what failed, and not why": Wrong(CHECK, ", *(it[:WIDTH] for it in ended.lines[-SHOWN:])]", "]", CI,
+    "an edge beside its setup": Wrong(CHECK, "elif self.run_one(part).failed:",
+                                      "elif part.name in SETUPS:\n                        waiting.append(beside.submit(self.run_one, part))\n"
+                                      "                    elif self.run_one(part).failed:", CI, "a_setup"),
+    "what failed, and not why": Wrong(CHECK, ", *part.last_words(ended.lines)]", "]", CI,
                                       "parts_that_fail"),
     "a check that says nothing for long": Wrong(CHECK, "newest line: {newest:.{NEWEST}}", "newest line: {newest:.0}", CI, "takes_long"),
     "what parts have said in another's file": Wrong(CHECK, "f\"{part.name}.txt\")", "\"part.txt\")", CI, "all_pass"),
-    "a part that isn't waited for": Wrong(CHECK, "(status := ended_within(process, patience)) is None:",
-                                          "(status := ended_within(process, patience) or 0) is None:", CI, "takes_long"),
+    "a part that isn't waited for": Wrong(CHECK, "(processor := ended_within(process, patience)) is None:",
+                                          "(processor := ended_within(process, patience) or 0.0) is None:", CI, "takes_long"),
+    "a part whose own processor time counts alone": Wrong(CHECK, "fields[11:15]", "fields[11:13]", CI, "takes_long"),
     "a quick check of half the parts": Wrong(CHECK, "not names and not it.has(\"long\")", "not names and it.has(\"quick\")", CI,
                                              "side_by_side"),
     "parts by others' names": Wrong(CHECK, "if it.name in names or not names", "if not names or it.has(\"quick\")", CI, "side_by_side"),
@@ -177,4 +193,77 @@ WRONG = {
     "tests by their modules' names": Wrong(SHARED, "any(word in it.name for word in words)", "any(word in it.nodeid for word in words)",
                                            SHARING, "last_lines"),
     "names that are passed over": Wrong(CHECK, "if given.names and (given.all or given.list):", "if False:", CI, "words_of"),
+    "figures that may be any": Wrong(RATCHET, "    if text == spelled(figures):\n", "    if text:\n", MEASURING, "as_the_tree"),
+    "figures that fell unseen": Wrong(RATCHET, "    if text == spelled(figures):\n",
+                                      "    if text and all(value >= there.get(name, 0) for name, value in (kept_in(text) or {}).items()):\n",
+                                      MEASURING, "less_is"),
+    "figures that rise as they are written": Wrong(RATCHET, " if not found else ():", ":", MEASURING, "more_is"),
+    "any paragraph of a figure": Wrong(RATCHET, " and self.new == figure.value", "", MEASURING, "more_is"),
+    "a paragraph of any figure": Wrong(RATCHET, "self.name == figure.name and ", "", MEASURING, "more_is"),
+    "a paragraph that begins higher": Wrong(RATCHET, " and self.old <= former", "", MEASURING, "more_is"),
+    "a paragraph without a reason": Wrong(RATCHET, ": (?P<why>\\S.*)", ":(?P<why>.*)", MEASURING, "more_is"),
+    "a paragraph on one line": Wrong(RATCHET, "text_of(DECISIONS).split(\"\\n\\n\")", "text_of(DECISIONS).split(\"\\n\")", MEASURING, "more_is"),
+    "paragraphs that aren't so": Wrong(RATCHET, "if held.get(it.name) != it.new or it.old >= it.new", "if it.old >= it.new", MEASURING,
+                                       "not_so"),
+    "paragraphs that let nothing rise": Wrong(RATCHET, " or it.old >= it.new", "", MEASURING, "not_so"),
+    "paragraphs of what is told alone": Wrong(RATCHET, "for it in figures if it.free is not None}", "for it in figures}", MEASURING, "not_so"),
+    "what is told alone, and held": Wrong(RATCHET, "        if it.free is not None:\n", "        if True:\n", MEASURING, "without_a_word"),
+    "no figure without a word": Wrong(RATCHET, "max(former[it.name], it.free)", "former[it.name]", MEASURING, "without_a_word"),
+    "new crates of any size": Wrong(RATCHET, "default=it.free if formers and it.free else it.value", "default=it.value", MEASURING,
+                                    "without_a_word"),
+    "a git that isn't asked": Wrong(RATCHET, "text_of(KEPT)), *of_git()) if it]", "text_of(KEPT)),) if it]", MEASURING, "by_hand"),
+    "a commit that is compared with itself": Wrong(RATCHET, ", *said(\"rev-parse\", \"HEAD^@\").split()", "", MEASURING, "by_hand"),
+    "a merge that takes the higher": Wrong(RATCHET, "limit = min(was,", "limit = max(was,", MEASURING, "merged"),
+    "one parent of a merge": Wrong(RATCHET, "\"HEAD^@\"", "\"HEAD^\"", MEASURING, "merged"),
+    "rows that aren't looked at": Wrong(RATCHET, "if text_of(HEADLINE) != headline(figures) else []", "if False else []", MEASURING,
+                                        "as_the_tree"),
+    "clauses of public functions alone": Wrong(FIGURES, "        for it in functions_of(path):\n",
+                                               "        for it in (it for it in functions_of(path) if it.visibility == \"pub \"):\n",
+                                               MEASURING, "test_figures"),
+    "clauses of closures": Wrong(FIGURES, "len(contracts.own_clauses(lines_of(path), it))", "len(it.clauses)", MEASURING, "test_figures"),
+    "functions of tests": Wrong(FIGURES, "if part != \"sources\" or not OF_TESTS.search(it))", "if it)", MEASURING, "test_figures"),
+    "answers of forty lines": Wrong(FIGURES, "if count > LONG}", "if count >= LONG}", MEASURING, "test_figures"),
+    "lemmas as answers": Wrong(FIGURES, "if os.path.basename(it) == \"Answers.antt\"}", "if it}", MEASURING, "test_figures"),
+    "lines that just fit": Wrong(FIGURES, "sum(len(line) > antt.WIDTH", "sum(len(line) > antt.WIDTH + 1", MEASURING, "test_figures"),
+    "comments as tags": Wrong(FIGURES, "re.sub(r\"(//|--).*\", \"\", line)", "line", MEASURING, "test_figures"),
+    "homes of all tags alone": Wrong(FIGURES, "NUMBER.findall(text))) <= 1:", "NUMBER.findall(text))) < 1:", MEASURING, "test_figures"),
+    "records with their chapters": Wrong(FIGURES, "if page.is_record or page in CHAPTERS else []", "if page in CHAPTERS else []", MEASURING,
+                                         "test_figures"),
+    "pages of nothing": Wrong(FIGURES, "    if not found:\n", "    if found is None:\n", MEASURING, "not_there"),
+    "tags of nothing": Wrong(FIGURES, "    if not tags:\n", "    if tags is None:\n", MEASURING, "not_there"),
+    "proofs to code, rounded down": Wrong(FIGURES, "math.ceil(10", "math.floor(10", MEASURING, "test_figures"),
+    "a way that begins nowhere": Wrong(WAY, "            if not begins:\n", "            if begins is None:\n", MEASURING, "not_there"),
+    "a way through doubles": Wrong(WAY, "for path in sorted(used):", "for path in sorted(self.sources):", MEASURING, "test_way"),
+    "a way without traits": Wrong(WAY, "types & {step.owner, step.trait} if types", "types & {step.owner} if types", MEASURING, "test_way"),
+    "a way that sees its own crate alone": Wrong(WAY, "near = (crate, *self.listed[crate])", "near = (crate,)", MEASURING, "test_way"),
+    "a way that stops where a name goes on": Wrong(WAY, "if len(way) == 2 and further[0] in self.listed else home", "if False else home",
+                                                   MEASURING, "test_way"),
+    "methods of slices": Wrong(WAY, " and not (value and value[1] in plain):", ":", MEASURING, "test_way"),
+    "measures that always pass": Wrong(MEASURE, "    return 1 if failed else 0", "    return 0", MEASURING, "as_the_tree bounds"),
+    "made pages that may differ": Wrong(MAKER, "if there != made else []", "if False else []", DOCUMENTS, "differs not_there"),
+    "a list without the last decision": Wrong(MAKER, "for it in decisions()}", "for it in decisions()[:-1]}", DOCUMENTS, "made_pages"),
+    "any file as a decision": Wrong(MAKER, "if NUMBERED.fullmatch(it))", "if it != os.path.basename(INDEX))", DOCUMENTS, "made_pages"),
+    "wrong bodies without their crates": Wrong(MAKER, "re.sub(r\"^###(?= )\", \"##\",", "re.sub(r\"^### .*\", \"\",", DOCUMENTS, "made_pages"),
+    "decisions of any length": Wrong(MAKER, "> LONGEST:", "> 9 * LONGEST:", DOCUMENTS, "form"),
+    "letters as bytes": Wrong(MAKER, "len(text.encode())", "len(text)", DOCUMENTS, "form"),
+    "paragraphs of any kind": Wrong(MAKER, " or not all(map(str.startswith, parts, PARTS)):", ":", DOCUMENTS, "form"),
+    "paragraphs of any number": Wrong(MAKER, "len(parts) != len(PARTS) or ", "", DOCUMENTS, "form"),
+    "a decision without a title": Wrong(MAKER, "[] if re.fullmatch(r\"# \\S.*\", title) else", "[] if title else", DOCUMENTS, "form"),
+    "numbers that stand twice": Wrong(MAKER, "for it in decisions()) > 1:", "for it in decisions()) > 2:", DOCUMENTS, "twice"),
+    "links that lead nowhere": Wrong(MAKER, "if not os.path.exists(os.path.join(ROOT, there)):", "if False:", DOCUMENTS, "links"),
+    "links from the top": Wrong(MAKER, "os.path.join(os.path.dirname(name), path)", "path", DOCUMENTS, "made_pages links"),
+    "headings that aren't there": Wrong(MAKER, "if anchor and anchor not in", "if False and anchor not in", DOCUMENTS, "links"),
+    "headings in examples": Wrong(MAKER, "HEADING.findall(FENCE.sub(\"\", text))", "HEADING.findall(text)", DOCUMENTS, "links"),
+    "headings of one name": Wrong(MAKER, "f\"{name}-{count}\" if count else name", "name", DOCUMENTS, "made_pages links"),
+    "links of docs alone": Wrong(MAKER, "(\"*.md\", \"docs/**/*.md\", \"*/*.md\", \"*/*/README.md\")", "(\"README.md\", \"docs/**/*.md\")", DOCUMENTS,
+                                 "each_page"),
+    "pages of any length": Wrong(MAKER, "if size > BY_HAND[names] else []", "if False else []", DOCUMENTS, "length"),
+    "pages by themselves": Wrong(MAKER, "for it in names)\n    return", "for it in names[:1])\n    return", DOCUMENTS, "length"),
+    "tables that count by hand": Wrong(MAKER, "len(MADE_PART.sub(\"\", text_of(it)).encode())", "len(text_of(it).encode())", DOCUMENTS, "length"),
+    "a figure of the front page that is older": Wrong("README.md", "163,000, 348,000, 295,000", "163,000, 349,000, 295,000", DOCUMENTS,
+                                                      "front_page"),
+    "an edge that is faster on the front page": Wrong("README.md", "some 23,000 orders a second", "some 24,000 orders a second", DOCUMENTS,
+                                                      "of_the_edge"),
+    "pages that always pass": Wrong(MAKER, "    return 1 if failed else 0", "    return 0", DOCUMENTS, "differs"),
+    "lemmas that nothing names": Wrong(MEASURE, "[f\"nothing names {it}\" for it in lists[\"lemmas\"]] + ", "", MEASURING, "bounds"),
 }

@@ -5,6 +5,7 @@ import os
 import shutil
 from typing import NamedTuple
 
+import checks
 import chromium
 
 BOARD = "test_board_page.py"
@@ -29,15 +30,10 @@ class Wrong(NamedTuple):
 
     def put(self, tools: str, folder: str) -> str:
         """Makes a copy of the tools in this folder that is wrong so, and gives its path."""
-        path = shutil.copytree(tools, os.path.join(folder, "tools"), ignore=shutil.ignore_patterns("__pycache__"))
-        shutil.copytree(os.path.join(os.path.dirname(tools), "contrib/standby"), os.path.join(folder, "contrib/standby"))
+        checks.copy_there(os.path.dirname(tools), ("tools", "contrib/standby"), folder)
+        path = os.path.join(folder, "tools")
         name = os.path.join(path, "gikvand", self.module if "." in self.module else f"{self.module}.py")
-        with open(name, encoding="utf-8") as file:
-            text = file.read()
-        if text.count(self.old) != 1:
-            raise ValueError(f"{self.old!r} stands {text.count(self.old)} times in {self.module}")
-        with open(name, "w", encoding="utf-8") as file:
-            file.write(text.replace(self.old, self.new))
+        checks.change(name, self.old, self.new)
         return path
 
 
@@ -144,6 +140,9 @@ WRONG = {
     "any snapshot": Wrong("why", "if snapshots and (found", "if False and (found", "whys_of_bytes"),
     "those who wait as connected": Wrong("watch", "it.state == ESTABLISHED and it.is_taken", "it.state == ESTABLISHED",
                                          "watched"),
+    "closed connections that wait": Wrong("watch", "len(taken), len(waiting), ",
+                                          "len(taken), sum(it.came for it in here if it.state == LISTENS), ", "closed_connections"),
+    "who is served as one who waits": Wrong("watch", " and not it.is_taken]", "]", "closed_connections"),
     "nobody's queue": Wrong("watch", "max((it.sent for it in taken), default=0)", "0", "watched"),
     "a venue that always serves": Wrong("watch", '[("", int(bool(it)))]', '[("", 1)]', "watched"),
     "symbols that aren't kept": Wrong("trade", "    symbols.keep(journal, traded)\n", "", "symbols_of_a"),
@@ -165,6 +164,19 @@ WRONG = {
     "a program that ended": Wrong("events", 'if data == b"":', "if False:", "programs_that_end"),
     "a program that stays": Wrong("events", "libc.prctl(PR_SET_PDEATHSIG, signal.SIGKILL)", "pass", "ends_of_a_board"),
     "a journal that was replaced": Wrong("board", "            self.source.check()\n", "", "journals_that"),
+    "answers of any number": Wrong("nats", "                if not it or it.number == word:\n", "                if True:\n",
+                                   "answers_to_others"),
+    "answers that nobody asked for": Wrong("nats", "            if word in numbers and self", "            if self", "answers_to_others"),
+    "answers of other streams": Wrong("nats", "        return stream == self.name and ", "        return ", "answers_to_others"),
+    "newest messages of other subjects": Wrong("nats", " and (is_wanted or not wanted)", "", "newest_of_another"),
+    "lines of a server without a bound": Wrong("nats", "        if len(self.rest) > LONGEST:\n", "        if False:\n", "other_servers"),
+    "messages of a server without a bound": Wrong("nats", "if not 0 <= count <= LONGEST:", "if False:", "other_servers"),
+    "late readers refused for good": Wrong("nats", "    kind = Unheard if ", "    kind = Trouble if ", "late_readers"),
+    "refusals that are asked again": Wrong("nats", " in SLOW else Trouble\n", " in SLOW else Unheard\n", "test_refusals"),
+    "a server that is heard for ever": Wrong("nats", "if time.monotonic() > self.until:", "if False:", "says_on"),
+    "bytes of a server that end the board": Wrong("nats", "        except (ValueError, IndexError):\n", "        except MemoryError:\n",
+                                                  "other_servers"),
+    "a server's times as they are": Wrong("feed", "        except ValueError:\n", "        except MemoryError:\n", "other_servers"),
     "a status of the board": Wrong("board", "return 2 if self.trouble else", "return", "journals_that"),
     "any sum at a glance": Wrong("glance", "int(found[5]) == sum(message[:-TRAILER]) % 256", "True", "glances"),
     "any length at a glance": Wrong("glance", "int(found[1]) == len(found[2]) <= LONGEST", "True", "glances"),
@@ -258,18 +270,35 @@ WRONG = {
     "no words without docstrings": Wrong("words", "    if module.__doc__:\n        return module.__doc__\n",
                                          "    return module.__doc__\n", "words_without"),
     "numbers of before as lost": Wrong("edge", "if self.first and at >= self.first", "if self.first", "probes_of"),
+    "the last of several files": Wrong("edge", "Edge(*itertools.chain.from_iterable(map(files_of, paths)))",
+                                       "Edge(*list(itertools.chain.from_iterable(map(files_of, paths)))[-1:])", "several_files"),
+    "a file in the place of another": Wrong("edge", "        if other := self.sessions.get(name):\n",
+                                            "        if False and (other := self.sessions.get(name)):\n", "several_files"),
+    "files of other venues": Wrong("edge", 'if it.need("Symbols").split() != first.need("Symbols").split():', "if False:",
+                                   "several_files"),
+    "all files of a folder": Wrong("edge", 'if it.endswith(".cfg"))', ")", "several_files"),
     "another step": Wrong("edge", "str(steps * self.mantissa)", "str(steps)", "steps_of"),
     "reports to probes": Wrong("edge", "!= PROBE", "!= 0", "probes_of"),
     "ends of days as cancels": Wrong("edge", 'report.get("150") == CANCELLED and', "False and", "ends_of_days"),
     "each cancel as the end of a day": Wrong("edge", " and self.is_of_an_end(number, report):\n", ":\n", "ends_of_days"),
     "refused ends of days": Wrong("edge", " and not self.is_of_an_end(number, report)\n", "\n", "ends_of_days"),
-    "ends of days as words of the edge's own": Wrong("edge", ' and message.get("150") != EXPIRED', "", "ends_of_days"),
+    "ends of days as words of the edge's own": Wrong("edge", ' and message.get("150") not in (CANCELLED, EXPIRED)', "", "ends_of_days"),
+    "cancels of operators without their text": Wrong("edge", "OF_OPERATOR if self.is_of_operator(number, report) else ", "", "ends_of_days"),
+    "reports of all desks as those of one": Wrong("edge", " and (not desk or self.member(number).desk_of(report) == desk)", "", "reports_of_desks"),
+    "a desk's log as that of the first": Wrong("edge", "member.comp_ids[desk or FIRST]", "member.comp_ids[FIRST]", "reports_of_desks"),
+    "nobody's reports without a word": Wrong("edge", "        if self.member(number).is_nobodys(report):\n", "        if False:\n", "reports_of_desks"),
+    "names of a desk that has gone": Wrong("edge", "        if kept and desk in self.comp_ids:\n", "        if kept:\n", "reports_of_desks"),
+    "desks of no edge": Wrong("edge", '(desks := [it for it in words if "." in it])', "(desks := list[str]())", "reports_of_desks"),
+    "desks that the settings don't have": Wrong("edge", "        if desk and desk not in self.member(member).comp_ids:\n", "        if False:\n",
+                                                "reports_of_desks"),
+    "trades of the first desk": Wrong("trades", "known.comp_ids.get(desk, ids[member])", "ids[member]", "reports_of_desks"),
+    "cancels of operators as words of the edge's own": Wrong("edge", "not in (CANCELLED, EXPIRED)", "!= EXPIRED", "ends_of_days"),
     "ends of days with an OrigClOrdID": Wrong("edge", '.items() if tag != "41"}', ".items()}", "ends_of_days"),
     "a refusal that is sent again late": Wrong("logs", "        self.known.update(without)\n", "", "test_logs_behind"),
     "any refusal that is sent again": Wrong("logs", "(report in self.known if place", "(True if place", "wrong_logs_behind"),
     "what was sent again": Wrong("logs", "if is_again and (report in self.known if place is None else place <= self.last):", "if False:",
                                  "logs_behind"),
-    "messages to others": Wrong("edge", "if (message.get(\"49\"), message.get(\"56\")) != (member.edge_id, member.comp_id):", "if False:",
+    "messages to others": Wrong("edge", "(message.get(\"49\"), message.get(\"56\")) != ids or ", "",
                                 "wrong_logs_behind"),
     "prices that aren't compared": Wrong("edge", 'NOT_COMPARED = OF_A_SESSION | {"29"}', 'NOT_COMPARED = OF_A_SESSION | {"29", "44", "31"}',
                                          "wrong_logs_behind"),
@@ -294,6 +323,22 @@ WRONG = {
     "a journal that changes behind a look": Wrong("audit", "        summed.look_back()  # It may have been changed behind the look "
                                                   "before.\n", "", "changed_behind"),
     "a log that goes back": Wrong("audit", " or int(found[5]) < size", "", "words_of_audit"),
+    "another program's sum": Wrong("provenance", "manifest.programs.get(name, {}).items()", "manifest.programs[\"venued\"].items()",
+                                   "provenance.py and test_programs"),
+    "programs of all sums": Wrong("provenance", "        if came == wanted:\n", "        if True:\n", "provenance.py and test_programs"),
+    "a wrong program that is passed over": Wrong("provenance", "return 0 if all(", "return 0 if any(", "provenance.py and test_programs"),
+    "crates without their functions": Wrong("provenance", "sum(it.functions for", "sum(1 for", "provenance.py and test_programs"),
+    "a build of another commit": Wrong("provenance", "git checkout {manifest.commit}", "git checkout HEAD", "provenance.py and test_programs"),
+    "programs that aren't on the path": Wrong("provenance", "given.programs or on_the_path()", "given.programs", "programs_on_the_path"),
+    "no program, and nothing said": Wrong("provenance", "    if not found:\n", "    if False:\n", "programs_on_the_path"),
+    "sources that aren't there": Wrong("provenance", "        if not os.path.lexists(path):\n", "        if not os.path.lexists(path):\n"
+                                       "            continue\n        if not os.path.lexists(path):\n", "provenance.py and test_sources"),
+    "a link for what it leads to": Wrong("provenance", "if os.path.islink(path) else sum_of(path)", "if False else sum_of(path)",
+                                         "provenance.py and test_sources"),
+    "sources that differ, and are right": Wrong("provenance", "return 1 if differ else 0", "return 0", "provenance.py and test_sources"),
+    "a manifest of any form": Wrong("provenance", '        if fields.pop("format") != FORMAT:\n', '        if not fields.pop("format"):\n',
+                                    "cannot_be_told"),
+    "a manifest of other types": Wrong("provenance", "        if not all(isinstance(it, str)", "        if not all(True", "cannot_be_told"),
     "a log of nothing": Wrong("audit", "            if not summed.lines:\n", "            if False:\n", "words_of_audit"),
     "a signal that is lost": Wrong("audit", "                if goes_on:\n                    keep_on(summed, log)\n",
                                    "                keep_on(summed, log)\n", "a_signal_as"),

@@ -9,9 +9,8 @@ import time
 
 import pytest
 
-from checks import ROOT, ran
+from checks import ROOT, put_text, ran
 from gikvand import main as tools
-from test_pages import parser_of
 from venues import PATIENCE
 
 pytestmark = [pytest.mark.quick, pytest.mark.usefixtures("programs")]
@@ -38,9 +37,9 @@ def test_options_completed() -> None:
     assert completed("gikvand", "") == sorted([*tools.COMMANDS, "--help", "--version"])
     assert completed("gikvand", "tr") == ["trade", "trades"]
     for name in tools.COMMANDS:
-        options = [it for action in parser_of(name)._actions for it in action.option_strings if it.startswith("--")]
+        options = [it for action in tools.parser_of(name)._actions for it in action.option_strings if it.startswith("--")]
         assert (name, completed("gikvand", name, "-")) == (name, sorted(options))
-        taking = [it.option_strings[0] for it in parser_of(name)._actions if it.option_strings and it.nargs is None]
+        taking = [it.option_strings[0] for it in tools.parser_of(name)._actions if it.option_strings and it.nargs is None]
         for option in taking:
             assert (option, completed("gikvand", name, option, "-")) == (option, [])
 
@@ -51,8 +50,7 @@ def test_words_completed() -> None:
     with tempfile.TemporaryDirectory(prefix="completion-") as folder:
         for name, text in (("day.journal", ""), ("day.journal.symbols", "ABC XYZ\n"), ("c1.log", ""),
                            ("bad.symbols", "$(touch${IFS}run) `touch${IFS}run` * Q\n")):
-            with open(os.path.join(folder, name), "w", encoding="ascii") as file:
-                file.write(text)
+            put_text(os.path.join(folder, name), text)
         journal = ["day.journal", "day.journal.symbols"]
         for words, wanted in (
                 ("gikvand verify d", journal), ("gikvand verify --symbols A d", journal),
@@ -64,12 +62,16 @@ def test_words_completed() -> None:
                 ("gikvand audit day.journal x ", []), ("gikvand verify --edge d", journal),
                 ("gikvand reports --edge c1.log day.journal C8", ["C8"]), ("gikvand why d", journal), ("gikvand watch d", journal),
                 ("gikvand board d", journal), ("gikvand board --port 8700 d", journal), ("gikvand board day.journal ", []),
+                ("gikvand board --feed ", []), ("gikvand board --feed = t", []), ("gikvand board --password-file c", ["c1.log"]),
+                ("gikvand board --feed tls://h/N --ca = c", ["c1.log"]), ("gikvand board --password-file c1.log d", journal),
                 ("gikvand trade ", ["buy", "cancel", "orders", "replace", "sell"]), ("gikvand trade --member ", list("12345678")),
                 ("gikvand trade --journal d", journal), ("gikvand trade --journal day.journal buy 5 ", ["ABC", "XYZ"]),
                 ("gikvand trade --journal = d", journal), ("gikvand trade --journal = day.journal buy 5 ", ["ABC", "XYZ"]),
                 ("gikvand trade --member = ", list("12345678")), ("gikvand verify --edge = c", ["c1.log"]),
                 ("gikvand trade --port = ", []), ("gikvand trade buy 5 ABC m", ["market"]), ("gikvand trade sell 5 ABC 50 ", ["fok", "ioc"]),
                 ("gikvand demo ", []), ("gikvand day d", journal), ("gikvand day day.journal ABC ", ["XYZ"]),
+                ("gikvand provenance d", journal), ("gikvand provenance day.journal c", ["c1.log"]),
+                ("gikvand provenance --sources c", ["c1.log"]), ("gikvand provenance day.journal --sources = c", ["c1.log"]),
                 ("gikvand day bad ", ["Q"]), ("gikvand nothing ", sorted(os.listdir(folder))),
                 ("venued ", ["-"]), ("venued 9001 d", journal), ("venued 9001 day.journal ", list("12345678")),
                 ("venued - day.journal ", ["1"]), ("venued - day.journal 1 ", ["ABC", "XYZ"]),

@@ -9,7 +9,7 @@ from unittest import mock
 
 import pytest
 
-from checks import ROOT, can_have_places, ran, text_of
+from checks import ROOT, can_have_places, put_text, ran, text_of
 from noting import can_be_noted, noted, order_of
 from script_modules import loaded
 from venues import REPLAY, VENUED
@@ -29,9 +29,7 @@ def asked_by(script: str, *words: str, by_systemd: bool = True) -> list[str]:
     """The programs that a script of the package calls with these words, with theirs. The journals have to be there behind it."""
     with tempfile.TemporaryDirectory(prefix="debian-") as folder:
         for name in STUBS:
-            with open(os.path.join(folder, name), "w", encoding="ascii") as file:
-                file.write(STAND_IN)
-            os.chmod(file.name, 0o755)
+            put_text(os.path.join(folder, name), STAND_IN, 0o755)
         asked = os.path.join(folder, "asked")
         places = PLACES.format(BY_SYSTEMD if by_systemd else "")
         status, out, err = ran("unshare", "-rm", "sh", "-c", places, "sh", "sh", os.path.join(DEBIAN, script), *words, ASKED=asked,

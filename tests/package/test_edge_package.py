@@ -1,6 +1,7 @@
 """Tests of the package gikvand-edge: its files, man pages, settings, services, scripts and the completion of its words. Those that
 need the edge are skipped where edge/setup hasn't built it."""
 import functools
+import glob
 import os
 import re
 import shutil
@@ -13,7 +14,7 @@ from unittest import mock
 import pytest
 
 import test_debian
-from checks import EDGE, ROOT, can_have_places, contents, is_edge_built, ran, text_of
+from checks import EDGE, ROOT, can_have_places, contents, is_edge_built, put_text, ran, text_of
 from gikvand.words import sure
 from mdoc import Page
 from packed import SCRIPT, Packed
@@ -28,7 +29,9 @@ WORDS = "| words | what they do |"
 DEBIAN, DROP_IN = os.path.join(ROOT, "contrib/edge/debian"), "contrib/edge/venued-edge.conf"
 MEMBERS = [f"C{number}" for number in range(1, 9)]
 UNITS, DOC = "usr/lib/systemd/system", "usr/share/doc/gikvand-edge"
-DICTIONARY = "usr/share/gikvand-edge/FIX44-edge.xml"
+DICTIONARY, EXAMPLE = "usr/share/gikvand-edge/FIX44-edge.xml", "contrib/edge/examples/C1.cfg"
+RIGHT = "the settings are right, as root (uid 0) reads them"
+LINK = re.compile(r"\[([^\]]*)\]\(([^)#:\s]*)(?:#[^)]*)?\)")
 EXPOSED = 15  # The greatest exposure of the service that is taken, in tenths, as systemd-analyze reckons it.
 NO_FINDING = re.compile(r".*STYLE: referenced manual not found: Xr ({})\b.*".format(
     "|".join(re.escape(" ".join(it.rsplit(".", 1))) for it in (*PAGES, COMMANDS, SETTINGS))))
@@ -68,10 +71,7 @@ def packed_page(name: str) -> str:
 
 @functools.cache
 def page(name: str) -> Page:
-    with tempfile.TemporaryDirectory(prefix="page-") as folder:
-        with open(os.path.join(folder, name), "w", encoding="ascii") as file:
-            file.write(packed_page(name))
-        return Page(file.name)
+    return Page(name, packed_page(name))
 
 
 def rows_of(head: str, behind: str = "") -> list[list[str]]:
@@ -151,9 +151,11 @@ def test_edge_settings() -> None:
 
 def text_of_limits() -> str:
     """The source that reads the limits, with each limit's name in the place of the call that gives it."""
-    text = text_of("edge/src/order_limits.cpp")
-    limits = re.findall(r"\w+", sure(re.search(r"enum class Limit {(.*)}", text_of("edge/src/order_limits.h")))[1])
-    names = re.findall(r'"(\w+)"', sure(re.search(r"NAMES\[\] = {([^}]*)}", text))[1])
+    text, header = text_of("edge/src/order_limits.cpp"), text_of("edge/src/order_limits.h")
+    constants = dict(re.findall(r'constexpr const char \*(\w+) = "(\w+)";', header))
+    limits = re.findall(r"\w+", sure(re.search(r"enum class Limit {(.*)}", header))[1])
+    names = [constants.get(it, it) for it in re.findall(r"\w+", sure(re.search(r"NAMES\[\] = {([^}]*)}", text))[1])]
+    assert len(names) == len(limits)
     return re.sub(r"nameOf\(Limit::(\w+)\)", lambda limit: f'"{dict(zip(limits, names))[limit[1]]}"', text)
 
 
@@ -169,16 +171,12 @@ def test_edge_defaults() -> None:
 
 def put_example(folder: str, **others: str) -> str:
     """Writes the package's settings of C1 for this folder, with other values of some: the path."""
-    text = text_of("contrib/edge/examples/C1.cfg").replace("/var/lib/gikvand-edge/C1", folder)
-    for name, it in {"VenueEvents": "/bin/true", "PasswordFile": f"{folder}/passwords", **others}.items():
+    text = text_of(EXAMPLE).replace("/var/lib/gikvand-edge/C1", folder)
+    for name, it in {"VenueJournal": "/bin/true", "VenueEvents": "/bin/true", "PasswordFile": f"{folder}/passwords", **others}.items():
         text, count = re.subn(rf"^#?{name}=.*", f"{name}={it}", text, flags=re.MULTILINE)
         assert (name, count) == (name, 1)
-    with open(os.path.join(folder, "passwords"), "w", encoding="ascii") as file:
-        file.write("desk-a:secret\n")
-    os.chmod(file.name, stat.S_IRUSR | stat.S_IWUSR)
-    with open(os.path.join(folder, "C1.cfg"), "w", encoding="ascii") as file:
-        file.write(text)
-    return file.name
+    put_text(os.path.join(folder, "passwords"), "desk-a:secret\n", stat.S_IRUSR | stat.S_IWUSR)
+    return put_text(os.path.join(folder, "C1.cfg"), text)
 
 
 @of_the_edge
@@ -186,9 +184,7 @@ def put_example(folder: str, **others: str) -> str:
 def test_edge_example() -> None:
     """The example of a member's settings, with that of its stunnel, is right as it stands; the dictionary is the installed one."""
     with tempfile.TemporaryDirectory(prefix="example-") as folder:
-        stunnel = os.path.join(folder, "gikvand-C1.conf")
-        with open(stunnel, "w", encoding="ascii") as file:
-            file.write(text_of("edge/stunnel/member.conf").replace("/etc/gikvand-edge", folder))
+        stunnel = put_text(os.path.join(folder, "gikvand-C1.conf"), text_of("edge/stunnel/member.conf").replace("/etc/gikvand-edge", folder))
         key = ["-nodes", "-newkey", "rsa:2048", "-keyout", os.path.join(folder, "key.pem"), "-subj", "/CN=C1"]
         assert ran("openssl", "req", "-x509", *key, "-out", os.path.join(folder, "C1.pem"))[0] == 0
         share = os.path.join(unpacked(), "usr/share")
@@ -196,7 +192,7 @@ def test_edge_example() -> None:
         if ran("unshare", "-rm", "sh", "-c", places, share, "true")[0]:
             print("package: the example isn't tried: no folder of the system can be another one here")
             return
-        right = (0, "the settings are right\n", "")
+        right = (0, f"{RIGHT}\n", "")
         for others, wanted in ((dict[str, str](), right), ({"StunnelConfig": stunnel}, right),
                                ({"Symbols": "ABC"}, (1, "", "gikvand-edge: Symbols: isn't of SYMBOL:STEP, as ABC:0.01: ABC\n"))):
             said = ran("unshare", "-rm", "sh", "-c", places, share, EDGE, "--check", put_example(folder, **others))
@@ -204,6 +200,82 @@ def test_edge_example() -> None:
         with tempfile.TemporaryDirectory(prefix="bare-") as bare:
             said = ran("unshare", "-rm", "sh", "-c", places, bare, EDGE, "--check", put_example(folder))
             assert said == (1, "", f"gikvand-edge: DataDictionary: can't be used: /{DICTIONARY}\n")
+
+
+def checked(*words: str, **environment: str) -> tuple[int, str, str]:
+    """What --check comes to where the package's dictionary is, for the user who may name himself root."""
+    folder = tempfile.mkdtemp(prefix="share-")
+    try:
+        os.mkdir(os.path.join(folder, "gikvand-edge"))
+        shutil.copy(os.path.join(ROOT, "edge/FIX44-edge.xml"), os.path.join(folder, "gikvand-edge"))
+        places = 'mount --bind "$0" /usr/share && exec "$@"'
+        return ran("unshare", "-rm", "sh", "-c", places, folder, EDGE, "--check", *words, **environment)
+    finally:
+        shutil.rmtree(folder)
+
+
+@of_the_edge
+def test_edge_example_hours() -> None:
+    """By the example a member may log on at any hour of any day; by the two days that stand there as words it is a week."""
+    clocks = glob.glob("/usr/lib/*/faketime/libfaketime.so.1")
+    if not clocks or not can_have_places():
+        print("package: the example's hours aren't tried: that needs faketime, and another folder in the system's place")
+        return
+    with tempfile.TemporaryDirectory(prefix="hours-") as folder:
+        week = {"StartDay": "Monday", "EndDay": "Saturday"}
+        for days in (dict[str, str](), week):
+            path, said = put_example(folder, **days), {}
+            for day in range(1, 8):  # (the first of these is a Tuesday)
+                for hour in ("00:00:00", "12:00:00", "23:59:50"):
+                    status, out, err = checked(path, LD_PRELOAD=clocks[0], FAKETIME=f"2030-01-0{day} {hour}", TZ="UTC")
+                    assert (day, hour, status, err) == (day, hour, 0, "")
+                    said[day, hour] = out.splitlines()[1:]
+            weekend = {at: ["C1: outside its hours until 20300107-00:00:00"] for at in said if days and at[0] in (5, 6)}
+            assert said == {at: weekend.get(at, []) for at in said}
+
+
+@of_the_edge
+def test_edge_second_member() -> None:
+    """The lines of EDGE.md that make a second member's settings make right ones, which share nothing with those of the first."""
+    if not can_have_places():
+        return
+    block, = re.findall(r"\n    cd /etc/gikvand-edge\n((?:    [^\n]*\n)*?)    gikvand-edge --check ", text_of("docs/EDGE.md"))
+    with tempfile.TemporaryDirectory(prefix="second-") as folder:
+        first = put_example(folder, PasswordFile=f"{folder}/C1.passwords", EdgePath=f"{folder}/C1/edge", FileLogPath=f"{folder}/C1/log")
+        os.rename(os.path.join(folder, "passwords"), os.path.join(folder, "C1.passwords"))
+        status, _, err = ran("sh", "-ec", block.replace(" -o gikvand-edge-C2", ""), folder=folder)
+        assert (status, err) == (0, "")
+        for path in (first, os.path.join(folder, "C2.cfg")):
+            assert (path, *checked(path)) == (path, 0, f"{RIGHT}\n", "")
+        texts = [dict(re.findall(r"^(\w+)=(.*)$", text_of(path), re.MULTILINE)) for path in (first, os.path.join(folder, "C2.cfg"))]
+        other = {name for name, it in texts[0].items() if texts[1][name] != it}
+        assert other == {"TargetCompID", "EdgePath", "FileLogPath", "Member", "SocketAcceptPort", "Username", "PasswordFile"}
+
+
+def without_links(text: str) -> str:
+    """A page's words alone."""
+    return LINK.sub(r"\1", text).replace(" of the sources", "")
+
+
+def test_edge_links_of_the_pages() -> None:
+    """Each link of a page that the two packages install leads to a file of theirs, and each page has the words that it has here."""
+    it = loaded("scripts/package")
+    with tempfile.TemporaryDirectory(prefix="pages-") as folder:
+        with mock.patch.object(it.Tree, "put_stripped", lambda *_: None):
+            for fill in (it.fill, it.fill_edge):
+                fill(it.Tree(folder), it.releases(), "1", 0)
+        pages = {place: name for name, place in {**it.FILES, **it.EDGE_FILES}.items() if name.endswith(".md")}
+        assert {os.path.basename(place) for place in pages} >= {"EDGE.md", "OPERATING.md", "MEASURED.md", "FAILOVER.md"}
+        count = 0
+        for place, name in pages.items():
+            text = contents(os.path.join(folder, place)).decode()
+            assert (place, without_links(text)) == (place, without_links(text_of(name)))
+            targets = [link[1] for link in LINK.findall(text) if link[1]]
+            count += len(targets)
+            assert (place, [to for to in targets if not os.path.exists(os.path.join(folder, os.path.dirname(place), to))]) == (place, [])
+        assert count > 50
+        for link in ("](../gikvand/MEASURED.md#the-edge)", "](../gikvand/OPERATING.md#install)"):
+            assert (link, link in contents(os.path.join(folder, DOC, "EDGE.md")).decode()) == (link, True)
 
 
 @of_the_edge
@@ -219,9 +291,10 @@ def test_files_of_the_edge_package() -> None:
                      *(f"{UNITS}/{it}.service.d/gikvand-edge.conf" for it in ("venued", "venued@")), DICTIONARY,
                      *(f"usr/share/man/man{it[-1]}/{it}.gz" for it in (COMMANDS, SETTINGS)),
                      "usr/share/bash-completion/completions/gikvand-edge", "usr/share/doc/gikvand/EDGE.md",
-                     *(f"{DOC}/{it}" for it in ("EDGE.md", "copyright", "changelog.gz", "examples/C1.cfg", "examples/gikvand-C1.conf"))}
+                     *(f"{DOC}/{it}" for it in ("EDGE.md", "copyright", "changelog.gz", "examples/C1.cfg", "examples/gikvand-C1.conf")),
+                     *(f"{DOC}/examples/{it}" for it in ("member.py", "member.go", "Member.java", "member.cpp", "quickfixj.cfg"))}
     assert "./etc/gikvand-edge/" in {line[5] for line in lines}
-    for name, place in (("edge/FIX44-edge.xml", DICTIONARY), ("docs/EDGE.md", f"{DOC}/EDGE.md"), ("LICENSE", f"{DOC}/copyright")):
+    for name, place in (("edge/FIX44-edge.xml", DICTIONARY), (EXAMPLE, f"{DOC}/examples/C1.cfg"), ("LICENSE", f"{DOC}/copyright")):
         assert (name, contents(os.path.join(unpacked(), place)) == contents(os.path.join(ROOT, name))) == (name, True)
     version = field("Version")
     assert version.split("+")[0] == text_of("VERSION").strip()

@@ -2,8 +2,10 @@
 scripts have modules of their own beside this one.
 
 The package is made twice, unpacked, and a venue is started from it. With `-m long` a small Debian is made and booted, as root and in a
-minute or more: the package is installed in it, serves there, is upgraded, goes back, and is removed.
+minute or more: the package is installed in it, serves there, is upgraded, goes back, and is removed; and so are the two images of
+contrib/container.
 """
+import fnmatch
 import gzip
 import os
 import re
@@ -18,15 +20,16 @@ import installed
 import test_edge_package
 from checks import ROOT, contents, ran, text_of
 from packed import SCRIPT, Packed
-from test_pages import PAGES
+from test_pages import PAGES, packed_page
 from venues import EVENTS, PATIENCE, REPLAY, VENUED, started
 
 pytestmark = [pytest.mark.quick, pytest.mark.usefixtures("programs")]
 
 UNITS = ("venued.service", "venued@.service")
-OF_A_STANDBY = ("venued-let-go@.path", "venued-let-go@.service")
+OF_A_STANDBY = ("venued-fence-ceph.service", "venued-let-go@.path", "venued-let-go@.service")
 PROGRAMS = ("venued", "venue-replay", "venue-events")
 packing = pytest.mark.debian("dpkg-deb", "strip")
+RECIPE = "contrib/container/Containerfile"
 EXPOSED = 15  # The greatest exposure of a service that is taken, in tenths, as systemd-analyze reckons it.
 
 
@@ -54,16 +57,20 @@ def test_files_of_the_package() -> None:
         {("root/root", it) for it in ("drwxr-xr-x", "-rwxr-xr-x", "-rw-r--r--", "lrwxrwxrwx")})
     programs = {line[5] for line in lines if line[0] == "-rwxr-xr-x"}
     assert programs == {*(f"./usr/bin/{it}" for it in PROGRAMS), "./usr/share/gikvand/scripts/gikvand",
-                        *(f"./usr/share/gikvand/standby/{it}" for it in ("before-start", "let-go", "serve", "volume-settings"))}
+                        *(f"./usr/share/gikvand/standby/{it}" for it in ("before-start", "fence-ceph", "let-go", "serve",
+                                                                         "volume-settings"))}
     names = {line[5].split(" -> ")[0] for line in lines}
     modules = [it for it in os.listdir(os.path.join(ROOT, "tools/gikvand")) if it.endswith((".py", ".html"))]
     wanted = ["usr/bin/gikvand", *(f"usr/share/man/man{it[-1]}/{it}.gz" for it in PAGES),
               *(f"usr/lib/systemd/system/{it}" for it in (*UNITS, *OF_A_STANDBY)), "usr/share/gikvand/standby/venued@.conf",
+              "usr/share/gikvand/standby/ceph-settings",
               "usr/lib/sysusers.d/venued.conf", "usr/share/doc/gikvand/copyright", "usr/share/doc/gikvand/changelog.gz",
               *(f"usr/share/bash-completion/completions/{it}" for it in ("gikvand", *PROGRAMS)),
               *(f"usr/share/gikvand/tools/gikvand/{it}" for it in modules)]
     assert [it for it in wanted if f"./{it}" not in names] == []
     assert [it for it in names if "__pycache__" in it] == []
+    for it in PAGES:
+        assert ran("gzip", "-dc", os.path.join(unpacked(), f"usr/share/man/man{it[-1]}/{it}.gz"))[1] == packed_page(it)
     assert version_of(made()).split("+")[0] == text_of("VERSION").strip()
     assert os.path.basename(made()) == f"gikvand_{version_of(made())}_amd64.deb"
     for name in PROGRAMS:
@@ -186,7 +193,7 @@ def test_services() -> None:
         os.makedirs(standby)
         shutil.copy(os.path.join(folder, "usr/share/gikvand/standby/venued@.conf"), standby)
         for unit in ("venued.service", "venued@one.service", "venued@standby.service", "venued-let-go@standby.path",
-                     "venued-let-go@standby.service"):
+                     "venued-let-go@standby.service", "venued-fence-ceph.service"):
             assert ran("systemd-analyze", "verify", "--man=no", "--recursive-errors=no", f"--root={folder}", unit) == (0, "", "")
         for unit in UNITS:
             status, out, err = ran("systemd-analyze", "security", "--offline=true", f"--threshold={EXPOSED}", "--no-pager",
@@ -208,6 +215,18 @@ def test_the_user_of_the_services() -> None:
 
 
 @packing
+def test_the_recipe_of_containers() -> None:
+    """It takes the package by its name, and starts the venue in one of its images, and an edge in the other."""
+    for target, unit in (("venue", "venued"), ("edge", "gikvand-edge@C1")):
+        steps = installed.steps_of(text_of(RECIPE), target)
+        copied = [it for instruction, words in steps if instruction == "COPY" for it in words.split()[:-1]]
+        assert [fnmatch.fnmatch(os.path.basename(made()), it) for it in copied] == [True, False]
+        runs = [words for instruction, words in steps if instruction == "RUN"]
+        assert all(f"/root/{it}" in runs[0] for it in copied)
+        assert [it.split("&& ")[-1] for it in runs[1:]] == [f"systemctl enable {unit}"]
+
+
+@packing
 @pytest.mark.long
 @pytest.mark.root
 @pytest.mark.debian("mmdebstrap", "ip", "pgrep")
@@ -220,3 +239,18 @@ def test_life_in_a_debian() -> None:
         installed.lives_in_a_debian(made(), out.strip(), test_edge_package.older_and_newer())
     finally:
         test_edge_package.PACKED.remove()
+
+
+@packing
+@test_edge_package.of_the_edge
+@pytest.mark.long
+@pytest.mark.root
+@pytest.mark.debian("mmdebstrap", "ip", "pgrep")
+@pytest.mark.skipif(os.geteuid() != 0, reason="it is for root, who may make and boot a small Debian")
+def test_life_in_containers() -> None:
+    """The images of contrib/container, made as their recipe says and booted as containers would be: the venue, and the edge beside it."""
+    with tempfile.TemporaryDirectory(prefix="packages-") as folder:
+        for it in (made(), test_edge_package.made()):
+            shutil.copy(it, folder)
+        test_edge_package.PACKED.remove()
+        installed.lives_in_two_containers(text_of(RECIPE), folder)

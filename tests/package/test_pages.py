@@ -2,7 +2,6 @@
 import argparse
 import ast
 import functools
-import importlib
 import os
 import re
 import socket
@@ -10,23 +9,31 @@ import tempfile
 
 import pytest
 
-from checks import ROOT, ran, text_of
+import commands_page
+from checks import ROOT, put, put_text, ran, text_of
 from gikvand import journals
 from gikvand import main as tools
 from gikvand.words import sure
-from mdoc import Page, items_in, literal
+from mdoc import Page, items_in, literal, spelled
 from venues import EVENTS, HOST, REPLAY, VENUED
 
 pytestmark = [pytest.mark.quick, pytest.mark.usefixtures("programs")]
 
 PAGES = ("venued.8", "venue-replay.1", "venue-events.1", "gikvand.1", "venue.journal.5")
+PROGRAMS = {it.rsplit(".", 1)[0]: it for it in PAGES[:3]}
 OTHERS = "|".join(re.escape(" ".join(it.rsplit(".", 1))) for it in PAGES)
+USAGE = "usage: .."  # As the runbook has it, of each program.
 NO_FINDING = re.compile(rf".*STYLE: referenced manual not found: Xr ({OTHERS})\b.*")
+
+
+def packed_page(name: str) -> str:
+    """The text of a page as the package has it."""
+    return commands_page.filled(text_of(f"contrib/man/{name}"))
 
 
 @functools.cache
 def page(name: str) -> Page:
-    return Page(os.path.join(ROOT, "contrib/man", name))
+    return Page(name, packed_page(name))
 
 
 def plain(text: str) -> str:
@@ -70,36 +77,39 @@ def test_words_of_the_programs() -> None:
     assert sorted(found) == sorted(wanted)
 
 
+def told() -> dict[str, dict[str, str]]:
+    """The lines on standard error in the runbook, by the programs that say them, each with its status."""
+    found: dict[str, dict[str, str]] = {it: {} for it in PROGRAMS}
+    for lines, of, status, _ in rows("Runbook", "| line | of | status |"):
+        for program in PROGRAMS if of == "each" else re.findall(r"`([^`]*)`", of):
+            for line in re.findall(r"`([^`]*)`", lines) if status not in ("", "0") else ():
+                found[program][line if line == USAGE else any_place(f"{program}: {line}")] = status
+    return found
+
+
 def test_statuses() -> None:
-    for name, head in zip(PAGES, ("| status | of `venued` |", "| status | of `venue-replay` |", "| status | of `venue-events` |")):
-        wanted = {status.split(",")[0]: plain(what) for status, what in rows("Exit statuses", head)}
+    """Each program's column says what its page says."""
+    columns = {**PROGRAMS, "gikvand": "gikvand.1"}
+    table = rows("Exit statuses", f"| status | {' | '.join(f'`{it}`' for it in columns)} |\n")
+    for column, (program, name) in enumerate(columns.items(), 1):
+        wanted = {cells[0]: plain(cells[column]) for cells in table if cells[column]}
         said = page(name).items("EXIT STATUS")
-        assert {status: plain(what)[:len(wanted.get(status, ""))] for status, what in said.items()} == wanted
-    told = sure(re.search(r"go by the status: (.*?)\. ", text_of("docs/OPERATING.md").replace("\n", " ")))[1]
-    found = re.findall(r"(\d), ([^;]*)", told)
-    said = page("gikvand.1").items("EXIT STATUS")
-    assert [(status, what[:len(it)]) for (status, it), what in zip(found, map(plain, said.values()))] == (
-        [(status, plain(it)) for status, it in found])
+        assert (program, {status: plain(what)[:len(wanted.get(status, ""))] for status, what in said.items()}) == (program, wanted)
     assert [int(it) for it in said] == [tools.DONE, tools.FOUND, tools.NOT_DONE]
 
 
 def test_lines_on_standard_error() -> None:
-    """The pages have the lines of OPERATING.md, each with its status, and no others."""
+    """The pages have the lines of the runbook, each with its status, and no others; and so has the rest of OPERATING.md."""
     text = text_of("docs/OPERATING.md")
-    said = {any_place(line): what for line, what in page(PAGES[0]).items("DIAGNOSTICS").items()}
-    part = re.split(r"^## Lines on standard error$", text, flags=re.MULTILINE)[1]
-    listed = re.findall(r"^- `((?:usage|venued): [^`]*)`", part, re.MULTILINE)
-    assert sorted(said) == sorted(map(any_place, listed))
-    told = {line.strip("`"): status for cells, status, _ in rows("Runbook", "| line | status |")
-            for line in re.sub(r"`, `(\d)", r"`, `venued: journal fault \1", cells).split("`, `")}
-    for line, what in said.items():
-        status = told["usage: .." if line.startswith("usage") else next(it for it in told if any_place(it) == line)]
-        assert (line, what.split(":")[0]) == (line, f"Status {status}")
-    for place, program in ((1, "venue-replay"), (2, "venue-events")):
-        named = {any_place(it.replace("\n", " ")) for it in re.findall(rf"`({program}: [^`]*)`", text)}
-        its = {any_place(it) for it in page(PAGES[place]).items("DIAGNOSTICS") if not it.startswith("usage")}
-        both = {it.replace("venued", program, 1) for it in said}
-        assert (named - its, its - named - both) == (set(), set())
+    for program, lines in told().items():
+        said = {any_place(re.sub("^usage: .*", USAGE, line)): what
+                for line, what in page(PROGRAMS[program]).items("DIAGNOSTICS").items()}
+        assert (program, sorted(said)) == (program, sorted(lines))
+        for line, what in said.items():
+            status = what.split(":")[0] if program == "venued" else "Status 1"
+            assert (line, status) == (line, f"Status {lines[line]}")
+        named = {any_place(it.replace("\n", " ")) for it in re.findall(rf"`({program}: (?!ready|stopped)[^`]*)`", text)}
+        assert (program, named - set(said)) == (program, set())
 
 
 def line_of(it: ast.Call) -> list[str]:
@@ -110,13 +120,9 @@ def line_of(it: ast.Call) -> list[str]:
 
 
 def test_the_runbook() -> None:
-    """The runbook has each line of venue-replay, of venue-events and of the commands of gikvand, and each figure of `watch` that may
-    wake somebody."""
+    """The runbook has each line of the commands of gikvand, and each figure of `watch` that may wake somebody."""
     text = text_of("docs/OPERATING.md")
     part = re.split(r"^## ", re.split(r"^## Runbook$", text, flags=re.MULTILINE)[1], flags=re.MULTILINE)[0]
-    for line in (it for name in PAGES[1:3] for it in page(name).items("DIAGNOSTICS")):
-        named = re.sub(r".* fault 46", "`46`", re.sub(r" at \d+$", " at N", line))
-        assert (line, line.startswith("usage") or named in part) == (line, True)
     figures = rows("Who is there: `watch`", "| figure (each begins with `gikvand_`)")
     woken = re.findall(r"`(\w+)`", " ".join(cells[0] for cells in figures if cells[1] != "for graphs"))
     assert [it for it in woken if f"`{it}`" not in part] == []
@@ -133,8 +139,7 @@ def test_lines_of_the_programs() -> None:
     with tempfile.TemporaryDirectory(prefix="lines-") as folder, socket.create_server((HOST, 0)) as taken:
         port = str(taken.getsockname()[1])
         for name, data in (("empty", journals.empty()), ("old", journals.empty(1)), ("cut", journals.empty()[:-1]), ("none", b"x")):
-            with open(os.path.join(folder, name), "wb") as file:
-                file.write(data)
+            put(os.path.join(folder, name), data)
         for program, words, line in (
                 (VENUED, [port, "empty", "1", "ABC"], f"venued: cannot listen on {port}"),
                 (VENUED, [port, "no/folder", "1", "ABC"], "venued: journal fault 41"),
@@ -154,34 +159,30 @@ def test_lines_of_the_programs() -> None:
             assert any_place(line) in map(any_place, shown)
 
 
-def parser_of(name: str) -> argparse.ArgumentParser:
-    """What reads a command's words."""
-    parser = argparse.ArgumentParser(prog=name)
-    tools.module_of(name).add_words(parser)
-    return parser
-
-
 def option_of(it: argparse.Action) -> str:
     """An option as the pages write it, with its value."""
     return " ".join([*it.option_strings, *([str(it.metavar or it.dest.upper())] if it.nargs is None else [])])
 
 
 def test_commands_of_gikvand() -> None:
-    """Each command has its heading, as its own usage line says, and its options, as its own help tells them."""
+    """Each command has its heading, as its own usage line says, what it says of itself, and its options, as its own help tells them."""
     parts = page("gikvand.1").parts("COMMANDS")
     assert [it.split()[0] for it in parts] == list(tools.COMMANDS)
     for head, lines in parts.items():
-        parser = parser_of(head.split()[0])
-        usage = " ".join(parser.format_usage().split()).removeprefix("usage: ").replace("[-h] ", "").removesuffix(" [-h]")
+        parser = tools.parser_of(head.split()[0])
+        usage = " ".join(parser.format_usage().split()).removeprefix("usage: gikvand ").replace("[-h] ", "").removesuffix(" [-h]")
         assert head == usage
         options = {option_of(it): it.help or "" for it in parser._actions if it.option_strings}
         said = items_in(lines)
         assert set(said) - set(options) == set()
+        assert ("--symbols ABC,XYZ" in said) == head.startswith("trade ")  # (that of all others stands once)
         for option in options.keys() - {"-h --help", "--symbols ABC,XYZ"} | said.keys():
-            assert (head, plain(said.get(option, ""))[:len(plain(options[option]))]) == (head, plain(options[option]))
-    words = sure(importlib.import_module("gikvand.trade").__doc__).split("\n\n")[3]
-    requests = [line.strip().split("  ")[0] for line in words.splitlines()]
-    assert literal(parts[next(it for it in parts if it.startswith("trade "))]) == requests
+            assert (head, plain(said.get(option, ""))) == (head, plain(options[option]))
+        shown = ["" if it == ".Pp" else it for it in lines[:next((at for at, it in enumerate(lines) if it.startswith(".Bl ")), None)]]
+        told = [it for it in map(spelled, shown) if not it.startswith(("Bd ", "Ed"))]
+        assert plain("".join(" ".join(told).split())) == plain("".join(sure(parser.description).split()))
+        indented = [it.strip() for it in sure(parser.description).splitlines() if it.startswith("  ")]
+        assert [it.strip() for it in literal(lines)] == indented
 
 
 def test_the_page_of_the_journal() -> None:
@@ -199,6 +200,7 @@ def test_the_page_of_the_journal() -> None:
 @pytest.mark.debian("mandoc")
 def test_lint_of_the_pages() -> None:
     """mandoc has nothing to say of them, but that the other ones aren't among the system's."""
-    for name in PAGES:
-        _, out, err = ran("mandoc", "-Tlint", os.path.join(ROOT, "contrib/man", name))
-        assert (name, [line for line in out.splitlines() if not NO_FINDING.fullmatch(line)], err) == (name, [], "")
+    with tempfile.TemporaryDirectory(prefix="pages-") as folder:
+        for name in PAGES:
+            _, out, err = ran("mandoc", "-Tlint", put_text(os.path.join(folder, name), packed_page(name)))
+            assert (name, [line for line in out.splitlines() if not NO_FINDING.fullmatch(line)], err) == (name, [], "")

@@ -10,8 +10,9 @@ import re
 import signal
 import struct
 import subprocess
-import sys
 import time
+from collections.abc import Callable
+from typing import BinaryIO
 from unittest import mock
 
 import pytest
@@ -19,8 +20,9 @@ import pytest
 from gikvand import clock, journals
 from gikvand.follow import Source
 from gikvand.words import sure
-from made_journals import JOURNAL, TOOLS, contents, each_version, gikvand, made, put, untimed, with_byte
-from venues import PATIENCE, Client, Trouble, await_that, order, running, started
+from made_journals import JOURNAL, contents, each_version, gikvand, made, put, untimed, with_byte
+from running_tools import Tool
+from venues import PATIENCE, Client, Trouble, await_that, order, started
 
 pytestmark = [pytest.mark.slow, pytest.mark.usefixtures("programs")]
 
@@ -32,23 +34,11 @@ LINE = re.compile(r"(\S+Z) (came|stood) (synchronized|unsynchronized|unknown) (\
 UNTOLD = "import sys; from gikvand import clock, main; clock.libc.inotify_init1 = lambda _: -1; sys.exit(main.main())"
 
 
-class Auditor:
-    """`gikvand audit` as a program of its own. It ends with the test, however that ends."""
+class Auditor(Tool):
+    """`gikvand audit`, in a session of its own."""
 
     def __init__(self, journal: str = JOURNAL, tells: bool = True) -> None:
-        command = [sys.executable, "-S", *(["-m", "gikvand"] if tells else ["-c", UNTOLD]), "audit", journal, LOG]
-        self.process = subprocess.Popen(command, stdout=subprocess.PIPE, stderr=subprocess.PIPE, text=True, start_new_session=True,
-                                        env={**os.environ, "PYTHONPATH": TOOLS})
-        running.append(self)
-
-    def kill(self) -> None:
-        self.process.kill()
-        self.process.wait()
-
-    def has_begun(self) -> "Auditor":
-        if not sure(self.process.stdout).readline():
-            raise Trouble(f"the auditor ended: {self.process.communicate()[1]}")
-        return self
+        super().__init__("-S", *(["-m", "gikvand"] if tells else ["-c", UNTOLD]), "audit", journal, LOG, is_apart=True)
 
     def end(self, number: int = signal.SIGTERM) -> tuple[int, str, str]:
         """Its status, its last line and what it said on standard error, where it gets this signal."""
@@ -72,7 +62,7 @@ def sums_of(data: bytes) -> list[tuple[str, str, str]]:
     return [(str(size), str(count), hashlib.sha256(data[:size]).hexdigest()) for size, count in found]
 
 
-def open_of(data: bytes):
+def open_of(data: bytes) -> BinaryIO:
     return open(put("of.sums", data), "rb")
 
 
@@ -287,7 +277,7 @@ WRITE = os.write
 
 def test_states_of_the_clock() -> None:
     """The clock's state is what adjtimex says: whether something sets it, and its greatest error."""
-    def saying(answer: int, status: int, error: int):
+    def saying(answer: int, status: int, error: int) -> Callable[[ctypes.Array], int]:
         def adjtimex(words: ctypes.Array) -> int:
             struct.pack_into("iqqqqi", words, 0, 0, 0, 0, error, 5, status)
             return answer

@@ -15,7 +15,7 @@ import pytest
 from board_page import rows_heard, trades_heard
 from gikvand import board, events, journals, programs, tally
 from gikvand.journals import Entry
-from gikvand.rules import sealed
+from gikvand.fix import sealed
 from made_journals import JOURNAL, contents, each_version, made, put, untimed, with_byte
 from venues import PATIENCE, Trouble, message, order, replay, running
 

@@ -14,8 +14,7 @@ import pytest
 
 from checks import ROOT
 from gikvand import edge
-from gikvand.fix import fields_of
-from gikvand.rules import sealed
+from gikvand.fix import fields_of, sealed
 from made_journals import JOURNAL, SYMBOLS, cancel, contents, each_version, gikvand, made, put, trade
 from test_reports import as_printed
 from venues import Trouble, order, started, value
@@ -41,9 +40,9 @@ def settings(**more: str) -> str:
     return put(SETTINGS, "".join(f"{it}\n" for it in lines).encode())
 
 
-def record(folder: str, member: int, rows: list[tuple[int, str, str]], first: int = 1) -> None:
+def record(folder: str, member: int, rows: list[tuple[int, str, str]], first: int = 1, front: bytes = b"m7 3 a1 ") -> None:
     """A member's record with these names, which is in use: what was written last stands in the log beside it, and the last name
-    in the row of a turn."""
+    in the row of a turn, behind what is no name."""
     os.makedirs(folder, exist_ok=True)
     path = os.path.join(folder, f"C{member}.db")
     for end in ("", "-wal", "-shm"):
@@ -54,8 +53,8 @@ def record(folder: str, member: int, rows: list[tuple[int, str, str]], first: in
         it.executescript(schema())
         it.execute("UPDATE session SET first = ?", (first,))
         it.executemany("INSERT INTO names VALUES (?, ?, ?, 0)", rows[:-1])
-        did = b"m7 3 a1 " + b"".join(b"%b%d %d %b" % (kind.encode(), number, len(name), name.encode())
-                                     for number, kind, name in rows[-1:])
+        did = front + b"".join(b"%b%d %d %b" % (kind.encode(), number, len(name), name.encode())
+                               for number, kind, name in rows[-1:])
         it.execute("INSERT INTO turns VALUES (1, 0, 1, 1, 0, 0, 0, 0, 0, ?)", (did,))
         it.commit()
 
@@ -191,6 +190,56 @@ def test_reports_and_trades_behind_the_edge() -> None:
         assert gikvand("reports", JOURNAL, "C3", "--edge", SETTINGS) == (2, [], [f"gikvand reports: {SETTINGS} has no session of C3"])
 
 
+def test_names_of_desks() -> None:
+    """A name of a further desk is told as the desk gave it, though another desk has given one that is the same. What the row of a turn
+    has of the desk's numbers is no name, and a member is known by the session of its first desk."""
+    record("edge/C1", 1, [(1, "r", "ORD-1"), (2, "r", "edge-desk-2:ORD-1"), (3, "c", "edge-desk-2:edge-cancel-3")], front=b"d2 5 7 8 9")
+    text = contents(settings()) + b"[SESSION]\nTargetCompID=DESK-C\nMember=C1\nDesk=2\n"
+    behind = edge.Edge(put(SETTINGS, text))
+    assert [behind.member(1).name_of(str(number)) for number in (1, 2, 3, 4)] == ["ORD-1", "ORD-1", "edge-cancel-3", "edge-lost-4"]
+    assert edge.ids_of(edge.Edge(SETTINGS)) == {"C1": "DESK-A", "C2": "DESK-B"}
+
+
+# Of three orders of C1 one is of the first desk, one of the second, and one of a third one, which the settings don't have any more.
+DESKS = [(1, "D", order(1, 2, 10, 50)), (1, "D", order(2, 2, 10, 50)), (1, "D", order(3, 2, 10, 50)), (2, "D", order(1, 1, 30, 50))]
+DESKS_NAMES = [(1, "r", "a"), (2, "r", "edge-desk-2:a"), (3, "r", "edge-desk-3:a")]
+
+
+def test_reports_of_desks() -> None:
+    """The reports to one of several desks, as C1.2, are those of its requests, and its log is looked at by its CompID. The first desk is
+    told what nobody's are, with a text. Trades are those of the desk that has traded."""
+    venue = started(JOURNAL, 3, list(SYMBOLS))
+    heard: dict[int, list[str]] = {1: [], 2: [], 3: []}
+    trade(venue, DESKS, heard)
+    venue.stop()
+    put(f"{JOURNAL}.symbols", b"ABC XYZ\n")
+    record("edge/C1", 1, DESKS_NAMES)
+    put(SETTINGS, contents(settings()) + b"[SESSION]\nTargetCompID=DESK-C\nMember=C1\nDesk=2\n")
+
+    def told(word: str) -> list[tuple[str | None, ...]]:
+        lines = gikvand("reports", JOURNAL, word, "--edge", SETTINGS)[1]
+        return [tuple(value(line, tag) for tag in ("150", "11", "58")) for line in lines]
+
+    nobodys, own = ("edge-lost-3", "nobody knows which desk sent this request"), ("a", None)
+    assert told("C1.2") == [("0", *own), ("F", *own)]
+    assert told("C1.1") == [("0", *own), ("0", *nobodys), ("F", *own), ("F", *nobodys)]
+    assert told("C1") == [("0", *own), ("0", *own), ("0", *nobodys), ("F", *own), ("F", *own), ("F", *nobodys)]
+    for word, comp_id, count in (("C1.1", "DESK-A", 4), ("C1.2", "DESK-C", 2)):
+        rows = [fields_of(line) for line in gikvand("reports", JOURNAL, word, "--edge", SETTINGS)[1]]
+        for row in rows:
+            row["60"] = row.pop("52")
+        logged([sent(at, comp_id, row) for at, row in enumerate(rows, 2)])
+        assert gikvand("verify", JOURNAL, f"{word}=c1.log", "--edge", SETTINGS)[1][-2] == (
+            f"{word}: {count} reports of c1.log as the journal tells them, which has 0 more")
+    sides = [row.split(",") for row in gikvand("trades", JOURNAL, "--edge", SETTINGS, "--csv")[1][1:]]
+    assert [sorted({"DESK-A", "DESK-C"} & set(row)) for row in sides] == [["DESK-A"], ["DESK-C"], ["DESK-A"]]
+    alone = "C1.2 is a desk of a member behind gikvand-edge: give --edge, with the edge's settings"
+    for words, fault in ((["reports", JOURNAL, "C1.2"], alone), (["verify", JOURNAL, "C1.2=c1.log"], alone),
+                         (["reports", JOURNAL, "C1.4", "--edge", SETTINGS], f"{SETTINGS} has no session of C1.4")):
+        status, _, err = gikvand(*words)
+        assert (status, err) == (2, [f"gikvand {words[0]}: {fault}"])
+
+
 def test_probes_of_the_edge() -> None:
     """What the edge asked for by itself is told to nobody, and who is of before the edge's first number has its own name."""
     it = made(3)
@@ -204,11 +253,13 @@ def test_probes_of_the_edge() -> None:
     assert value(gikvand("reports", JOURNAL, "C1", "--edge", SETTINGS)[1][0], "11") == "1"
 
 
-# Two orders of C1, a part of which trades. One ends with its day, as the edge asks, a cancel of an order that has gone comes too
-# late, and the member cancels the other order itself.
+# Three orders of C1, a part of which trades. One ends with its day, as the edge asks, a cancel of an order that has gone comes too
+# late, the member cancels the second order itself, and an operator the third one.
 ENDS = [(1, "D", order(1, 2, 100, 50)), (1, "D", order(2, 2, 10, 51)), (2, "D", order(1, 1, 30, 50)),
-        (1, "F", cancel(3, 1, 2, 100)), (1, "F", cancel(4, 1, 2, 100)), (1, "F", cancel(5, 2, 2, 10))]
-ENDS_NAMES = [(1, "r", "day"), (2, "g", "gtc"), (3, "e", "edge-expiry-3"), (4, "e", "edge-expiry-4"), (5, "r", "own")]
+        (1, "F", cancel(3, 1, 2, 100)), (1, "F", cancel(4, 1, 2, 100)), (1, "F", cancel(5, 2, 2, 10)),
+        (1, "D", order(6, 2, 10, 52)), (1, "F", cancel(7, 6, 2, 10))]
+ENDS_NAMES = [(1, "r", "day"), (2, "g", "gtc"), (3, "e", "edge-expiry-3"), (4, "e", "edge-expiry-4"), (5, "r", "own"),
+              (6, "r", "more"), (7, "o", "edge-cancel-7")]
 
 
 def told_of_ends(heard: list[str]) -> list[dict[str, str]]:
@@ -222,6 +273,8 @@ def told_of_ends(heard: list[str]) -> list[dict[str, str]]:
         it["60"] = it.pop("52")
         if it["11"] == "edge-expiry-3":
             it.update({"11": it.pop("41"), "150": "C", "39": "C", "58": "edge: the day has ended"})
+        if it["11"] == "edge-cancel-7":
+            it["58"] = "edge: the operator has cancelled this order"
         if it["11"] != "edge-expiry-4":
             rows.append(it)
     return rows
@@ -238,7 +291,8 @@ def test_ends_of_days_behind_the_edge() -> None:
     record("edge/C1", 1, ENDS_NAMES)
     settings()
     wanted = told_of_ends(heard[1])
-    assert [(it["150"], it["11"]) for it in wanted] == [("0", "day"), ("0", "gtc"), ("F", "day"), ("C", "day"), ("4", "own")]
+    assert [(it["150"], it["11"]) for it in wanted] == [("0", "day"), ("0", "gtc"), ("F", "day"), ("C", "day"), ("4", "own"),
+                                                        ("0", "more"), ("4", "edge-cancel-7")]
     came = [fields_of(line) for line in gikvand("reports", JOURNAL, "C1", "--edge", SETTINGS)[1]]
     for row in came:
         row["60"] = row.pop("52")
@@ -247,17 +301,52 @@ def test_ends_of_days_behind_the_edge() -> None:
     lines = [sent(number, "DESK-A", row) for number, row in enumerate(wanted, 2)]
     logged(lines)
     status, out, err = gikvand(*words)
-    assert (status, out[-2], err) == (0, "C1: 5 reports of c1.log as the journal tells them, which has 0 more", [])
+    assert (status, out[-2], err) == (0, "C1: 7 reports of c1.log as the journal tells them, which has 0 more", [])
     logged([*lines[:3], *lines[4:], sent(5, "DESK-A", wanted[3], "43=Y|")])
     assert gikvand(*words)[0] == 0  # (by a resend)
     logged([*lines[:3], *lines[4:]])
-    assert gikvand(*words)[1][-2] == "C1: 4 reports of c1.log as the journal tells them, which has 1 more"
+    assert gikvand(*words)[1][-2] == "C1: 6 reports of c1.log as the journal tells them, which has 1 more"
     for wrong in ({"150": "4", "39": "4"}, {"11": "edge-expiry-3"}, {"41": "day"}, {"151": "70"}, {"58": "edge: else"}):
         logged([*lines[:3], sent(5, "DESK-A", {**wanted[3], **wrong}), *lines[4:]])
         assert (wrong, gikvand(*words)[0] != 0 or " 1 more" in gikvand(*words)[1][-2]) == (wrong, True)
     late = next(it for it in heard[1] if value(it, "35") == "9")
-    logged([*lines, sent(7, "DESK-A", {**fields_of(as_printed(late)), "11": "edge-expiry-4", "41": "day"})])
+    logged([*lines, sent(9, "DESK-A", {**fields_of(as_printed(late)), "11": "edge-expiry-4", "41": "day"})])
     assert gikvand(*words)[0] == 1
+
+
+def services(folder: str = "services") -> list[str]:
+    """The same edge by a file for each of its members, as services have them."""
+    edges()
+    os.makedirs(folder, exist_ok=True)
+    heads = ["SenderCompID=GIKVAND", "Symbols=ABC:0.01 XYZ:0.25"]
+    return [put(f"{folder}/C{member}.cfg", "".join(f"{it}\n" for it in ["[SESSION]", *heads, *lines]).encode()) for member, lines in
+            ((1, ["TargetCompID=DESK-A", "Member=C1", "EdgePath=edge/C1"]), (2, ["TargetCompID=DESK-B", "Member=C2", "EdgePath=other"]))]
+
+
+@pytest.mark.usefixtures("journal")
+def test_several_files_of_an_edge() -> None:
+    """Files of services stand beside one another, each by its name or all by their folder, and tell what one file of all tells. No file
+    takes the place of another."""
+    one, two = services()
+    put("services/C1.passwords", b"desk-a:secret\n")
+    whole = gikvand("trades", JOURNAL, "--csv", "--edge", SETTINGS)
+    assert (whole[0], whole[2], "DESK-A" in "".join(whole[1]), "DESK-B" in "".join(whole[1])) == (0, [], True, True)
+    both = ["--edge", one, "--edge", two]
+    for words in (both, ["--edge", two, "--edge", one], ["--edge", "services"]):
+        assert (words, gikvand("trades", JOURNAL, "--csv", *words)) == (words, whole)
+    assert "DESK-A" not in "".join(gikvand("trades", JOURNAL, "--csv", "--edge", two)[1])
+    for member in ("C1", "C2"):
+        told_alone = gikvand("reports", JOURNAL, member, "--edge", SETTINGS)
+        assert (member, told_alone[0], gikvand("reports", JOURNAL, member, *both)) == (member, 0, told_alone)
+        put(f"{member}.log", "".join(f"{line}\n" for line in told_alone[1]).encode())
+    assert gikvand("verify", JOURNAL, "C1=C1.log", "C2=C2.log", *both)[0] == 0
+    os.mkdir("empty")
+    other = put("C3.cfg", contents(one).replace(b"Member=C1", b"Member=C3").replace(b"XYZ:0.25", b"XYZ:0.5"))
+    for words, line in ((["--edge", one, "--edge", SETTINGS], f"{one} and {SETTINGS} both have a session of C1: give one of these files"),
+                        (["--edge", one, "--edge", one], f"{one} and {one} both have a session of C1: give one of these files"),
+                        (["--edge", one, "--edge", other], f"{other} has other Symbols than {one}: are both of one venue?"),
+                        (["--edge", "empty"], "empty has no NAME.cfg: are these the settings of gikvand-edge?")):
+        assert (words, gikvand("trades", JOURNAL, *words)) == (words, (2, [], [f"gikvand trades: {line}"]))
 
 
 def write_on(over: threading.Event) -> None:

@@ -357,8 +357,7 @@ def test_told_of_writes() -> None:
             file.write(whole.data[whole.starts[2] + 1:])
             file.flush()
             os.pwrite(file.fileno(), journals.OPEN, whole.starts[2])
-        await_copy("the.copy", len(whole.data))
-        assert contents("the.copy") == whole.data
+        await_that("the copy is whole", lambda: contents("the.copy") == whole.data)
     finally:
         follower.kill()
         follower.communicate()

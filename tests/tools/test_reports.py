@@ -153,7 +153,7 @@ def test_reports_of_a_journal_in_use() -> None:
         heard = one.next()
         other.send("D", order(name, 1, 5, 50))
         other.next(), other.next(), one.next()
-        out = gikvand("reports", JOURNAL, "C1", "--after", value(heard, "17"), "--symbols", "ABC")[1]
+        out = gikvand("reports", JOURNAL, "C1", "--after", value(heard or "", "17"), "--symbols", "ABC")[1]
         assert [value(line, "150") for line in out] == ["F"]
         assert len(gikvand("trades", JOURNAL, "--symbols", "ABC")[1]) == name
     venue.stop()

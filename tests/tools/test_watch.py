@@ -205,7 +205,7 @@ def test_a_venue_watched() -> None:
     assert (found[f"gikvand_member_connections{mine}"] >= 1, found[f"gikvand_member_waiting{mine}"] >= 2) == (True, True)
     assert [found[f"gikvand_member_{it}{other}"] for it in ("connections", "waiting", "unsent_bytes", "unread_bytes")] == [0] * 4
     assert "gikvand_commands_total" not in figures_of(gikvand("watch", JOURNAL, "--prometheus", "--quick")[1])
-    assert gikvand("watch", JOURNAL, venue.port)[1][3:] == gikvand("watch", JOURNAL)[1][3:]
+    await_that("both ways say the same", lambda: gikvand("watch", JOURNAL, venue.port)[1][3:] == gikvand("watch", JOURNAL)[1][3:])
     assert [it.split(":")[0] for it in gikvand("watch", JOURNAL, venue.port + 1)[1][3:]] == [f"C1 at {venue.port + 1}"]
     with open(f"/proc/{venue.process.pid}/status", encoding="ascii") as file:
         resident = next(int(line.split()[1]) for line in file if line.startswith("VmRSS:"))
@@ -225,6 +225,30 @@ def test_a_venue_watched() -> None:
     venue.stop()
     found = figures_of(gikvand("watch", JOURNAL, "--prometheus")[1])
     assert (found["gikvand_up"], [it for it in found if "member" in it]) == (0, [])
+
+
+def test_closed_connections_watched() -> None:
+    """Who waited at a port, and has closed the connection, waits no more, though the port still has it."""
+    put(f"{JOURNAL}.symbols", b"ABC\n")
+    venue = started(JOURNAL, 1)
+    one = Client(venue.port, 1).log_on()
+    waiting = [Client(venue.port, 1) for _ in range(4)]
+
+    def seen() -> tuple[float, float]:
+        found = figures_of(gikvand("watch", JOURNAL, "--prometheus", "--quick")[1])
+        return found['gikvand_member_connections{member="C1"}'], found['gikvand_member_waiting{member="C1"}']
+    await_that("four wait", lambda: sum(seen()) == 5)
+    for it in waiting[1:]:
+        it.close()
+    await_that("one of them waits", lambda: sum(seen()) == 2)
+    watch = importlib.import_module("gikvand.watch")
+    assert next(it.came for it in watch.sockets() if (it.port, it.state) == (venue.port, watch.LISTENS)) >= 3
+    waiting[0].close()
+    await_that("none waits", lambda: seen() == (1, 0))
+    assert f"C1 at {venue.port}: 1 connection, 0 waiting, " in gikvand("watch", JOURNAL)[1][-1]
+    one.send("D", order(1, 1, 5, 50))
+    one.next()
+    venue.stop()
 
 
 def test_damaged_journals_watched() -> None:

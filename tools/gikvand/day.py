@@ -16,10 +16,11 @@ import collections
 import dataclasses
 import math
 import os
+from collections.abc import Callable, Iterator
 from xml.sax.saxutils import escape
 
 from gikvand import symbols
-from gikvand.events import Events
+from gikvand.events import Events, Level
 from gikvand.files import shown
 from gikvand.fix import fields_of
 from gikvand.programs import Trouble
@@ -35,6 +36,9 @@ A_LITTLE, FEW = 0.02, 10  # but not those as near as such a part of the price, o
 DEPTH_LEFT = LEFT + CHART + GAP
 DEPTH = WIDTH - DEPTH_LEFT - 30
 
+Times = list[tuple[int, str]]  # Places at which the time of the messages went on, each with the time.
+Best = tuple[int, int | None]  # A place, and the best price from there on.
+
 
 @dataclasses.dataclass(slots=True)
 class Trade:
@@ -48,33 +52,35 @@ class Trade:
 class Day:
     """The day of one symbol: its trades, the best price of each side as it changed, and the depth at the end."""
 
-    def __init__(self):
-        self.trades, self.depth, self.best = [], {BUY: {}, SELL: {}}, {BUY: [], SELL: []}
+    def __init__(self) -> None:
+        self.trades: list[Trade] = []
+        self.depth: dict[str, dict[int, int]] = {BUY: {}, SELL: {}}
+        self.best: dict[str, list[Best]] = {BUY: [], SELL: []}
 
-    def trade(self, report):
+    def trade(self, report: dict[str, str]) -> None:
         """Takes a trade in by the report to the order that came in, which is the second of its two."""
         self.trades.append(Trade(int(report["17"]), int(report["31"]), int(report["32"]), report["54"], "44" not in report))
 
-    def change(self, level):
+    def change(self, level: Level) -> None:
         """Takes in what rests at a price now."""
         if level.quantity:
             self.depth[level.side][level.price] = level.quantity
         else:
             self.depth[level.side].pop(level.price, None)
 
-    def settle(self, place):
+    def settle(self, place: int) -> None:
         """Notes the best prices behind a command whose last output has this place."""
         for side, best in ((BUY, max), (SELL, min)):
             price = best(self.depth[side], default=None)
             if (self.best[side][-1][1] if self.best[side] else None) != price:
                 self.best[side].append((place, price))
 
-    def prices(self):
+    def prices(self) -> list[int]:
         """All prices that the left chart has."""
         best = [price for side in self.best.values() for _, price in side if price is not None]
         return [*best, *(trade.price for trade in self.trades)]
 
-    def span(self):
+    def span(self) -> tuple[int, int]:
         """The lowest and the highest of these prices that aren't far from all others."""
         found = sorted(self.prices())
         first, middle, last = (found[(len(found) - 1) * at // 4] for at in (1, 2, 3))
@@ -86,17 +92,17 @@ class Day:
 class Axis:
     """A range of numbers on a range of the picture."""
 
-    def __init__(self, low, high, at, length):
+    def __init__(self, low: float, high: float, at: float, length: float) -> None:
         self.low, self.high, self.start, self.length = low, max(high, low + 1), at, length
 
-    def within(self, number):
+    def within(self, number: float) -> float:
         """The number, or the last whole one of the range on that side."""
         return min(max(number, math.ceil(self.low)), math.floor(self.high))
 
-    def at(self, number):
+    def at(self, number: float) -> float:
         return self.start + self.length * (number - self.low) / (self.high - self.low)
 
-    def ticks(self, about):
+    def ticks(self, about: int) -> range:
         """Round numbers within the range, about so many."""
         rough = (self.high - self.low) / about
         power = 10 ** math.floor(math.log10(rough)) if rough > 1 else 1
@@ -104,9 +110,10 @@ class Axis:
         return range(math.ceil(self.low / step) * step, math.floor(self.high) + 1, step)
 
 
-def days(journal, traded):
+def days(journal: str, traded: list[str]) -> tuple[dict[str, Day], tuple[int, int], Times]:
     """The day of each symbol, the counts of commands and outputs, up to one moment, and the places at which the time went on."""
-    found, times, events = {symbol: Day() for symbol in traded}, [], Events(journal, traded)
+    found, events = {symbol: Day() for symbol in traded}, Events(journal, traded)
+    times: Times = []
     for event in events:
         told = [fields_of(it.text.decode()) for it in event.reports if it.text.startswith(b"35=8|")]
         if told and (not times or times[-1][1] != told[0]["52"]):
@@ -120,15 +127,15 @@ def days(journal, traded):
     return found, (events.commands, events.outputs), times
 
 
-def text(x, y, words, size=12, anchor="start", more=""):
+def text(x: float, y: float, words: str, size: int = 12, anchor: str = "start", more: str = "") -> str:
     return f'<text x="{x:.1f}" y="{y:.1f}" font-size="{size}" text-anchor="{anchor}" {more}>{escape(words)}</text>'
 
 
-def line(x1, y1, x2, y2, colour=LINE):
+def line(x1: float, y1: float, x2: float, y2: float, colour: str = LINE) -> str:
     return f'<line x1="{x1:.1f}" y1="{y1:.1f}" x2="{x2:.1f}" y2="{y2:.1f}" stroke="{colour}"/>'
 
 
-def marker(x, y, side, size, is_market=False):
+def marker(x: float, y: float, side: str, size: float, is_market: bool = False) -> str:
     """A triangle: up for an incoming buy, down for an incoming sell. A small one has no edge. A market order's is hollow."""
     way = -1 if side == BUY else 1
     points = f"{x:.1f},{y + way * size:.1f} {x - size:.1f},{y - way * size:.1f} {x + size:.1f},{y - way * size:.1f}"
@@ -138,7 +145,7 @@ def marker(x, y, side, size, is_market=False):
     return f'<polygon points="{points}" fill="{COLOURS[side]}"{edge}/>'
 
 
-def steps(changes, end, across, up, colour):
+def steps(changes: list[Best], end: int, across: Axis, up: Axis, colour: str) -> str:
     """A line of level steps, broken where a side has no order."""
     parts, pen = [], False
     for (place, price), (until, _) in zip(changes, [*changes[1:], (end, None)]):
@@ -150,7 +157,7 @@ def steps(changes, end, across, up, colour):
     return f'<path d="{"".join(parts)}" fill="none" stroke="{colour}" stroke-width="2"/>' if parts else ""
 
 
-def frame(across, up):
+def frame(across: Axis, up: Axis) -> list[str]:
     """A chart's ground: a grid, and the upright axis with its numbers."""
     left, right, bottom, top = across.start, across.start + across.length, up.start, up.start + up.length
     drawn = []
@@ -161,7 +168,7 @@ def frame(across, up):
     return [*drawn, line(left, bottom, right, bottom), line(left, top, left, bottom)]
 
 
-def foot(across, bottom, what, about, named=None):
+def foot(across: Axis, bottom: float, what: str, about: int, named: Callable[[int], str] | None = None) -> list[str]:
     """A lower axis with its numbers, and what it counts; below a number stands the name that it has, too."""
     drawn = [line(across.start, bottom, across.start + across.length, bottom)]
     for tick in across.ticks(about):
@@ -172,9 +179,10 @@ def foot(across, bottom, what, about, named=None):
     return [*drawn, text(across.start + across.length / 2, bottom + (50 if named else 36), what, 12, "middle")]
 
 
-def volume(day, across, top):
+def volume(day: Day, across: Axis, top: float) -> list[str]:
     """How much was traded, over the same places."""
-    sums, width = collections.Counter(), across.high / BARS
+    sums: collections.Counter[int] = collections.Counter()
+    width = across.high / BARS
     for it in day.trades:
         sums[min(BARS - 1, int(it.place / width))] += it.quantity
     most = max(sums.values(), default=1)
@@ -187,12 +195,12 @@ def volume(day, across, top):
     return [*drawn, line(across.start, top, across.start, top + VOLUME)]
 
 
-def left_chart(day, outputs, up, times):
+def left_chart(day: Day, outputs: int, up: Axis, times: Times) -> list[str]:
     """Best prices and trades over the places of outputs, and what was traded."""
     end = outputs + 1
     across, top = Axis(0, end, LEFT, CHART), up.start + 10
     places = [place for place, _ in times]
-    def time_at(place):
+    def time_at(place: int) -> str:
         at = bisect.bisect_right(places, place) - 1
         return times[at][1][len("20250102-"):] if at >= 0 else ""
     drawn = [*frame(across, up), *volume(day, across, top),
@@ -210,11 +218,11 @@ def left_chart(day, outputs, up, times):
     return drawn
 
 
-def plural(count, noun):
+def plural(count: int, noun: str) -> str:
     return f"{count:,} {noun}{'' if count == 1 else 's'}"
 
 
-def right_chart(day, up):
+def right_chart(day: Day, up: Axis) -> list[str]:
     """What rests at the end, by price."""
     depth = {(side, price): left for side, levels in day.depth.items() for price, left in levels.items()}
     shown = {key: left for key, left in depth.items() if up.low <= key[1] <= up.high}
@@ -231,7 +239,7 @@ def right_chart(day, up):
     return drawn
 
 
-def row(symbol, day, outputs, top, times):
+def row(symbol: str, day: Day, outputs: int, top: float, times: Times) -> list[str]:
     """The two charts of a symbol."""
     if not day.prices():
         return [text(LEFT, top + 20, f"{symbol}: no order rested, and none was filled", 15)]
@@ -248,7 +256,7 @@ def row(symbol, day, outputs, top, times):
     return [title, *left_chart(day, outputs, up, times), *right_chart(day, up)]
 
 
-def legend():
+def legend() -> list[str]:
     """What lines, triangles and bars mean."""
     drawn, x, y = [], LEFT, 70
     for side, words in ((BUY, "best bid; buys that rest"), (SELL, "best offer; sells that rest")):
@@ -263,7 +271,7 @@ def legend():
     return [*drawn, text(x + 34, y, "by a market order")]
 
 
-def picture(journal, traded):
+def picture(journal: str, traded: list[str]) -> Iterator[str]:
     """The whole picture, part by part."""
     found, (commands, outputs), times = days(journal, traded)
     height = TOP + ROW * len(traded)

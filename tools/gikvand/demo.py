@@ -19,44 +19,46 @@ import threading
 from gikvand import symbols
 from gikvand.ports import free_port
 from gikvand.programs import REPLAY, ROOT, VENUED, WHERE, Trouble, need
+from gikvand.words import sure
 
 TRADE = [os.path.join(ROOT, "scripts/gikvand"), "trade"]
 JOURNAL, TRADED = "demo.journal", ["ABC"]
 PATIENCE = 10  # Seconds to wait for a line.
 TRIES = 10     # Pairs of ports to try: another process may take one before the venue does.
 
-running = []
+running: list[subprocess.Popen[str]] = []
 
 
 class Program:
     """A program that runs, and the lines that it prints."""
 
-    def __init__(self, name, *words):
+    def __init__(self, name: str, *words: str) -> None:
         pipe = subprocess.PIPE
         self.name = name
         self.process = subprocess.Popen(words, stdin=pipe, stdout=pipe, stderr=subprocess.STDOUT, text=True)
         running.append(self.process)
-        self.lines = queue.Queue()
+        self.lines: queue.Queue[str | None] = queue.Queue()
         threading.Thread(target=self.read, daemon=True).start()
 
-    def read(self):
-        for line in self.process.stdout:
+    def read(self) -> None:
+        for line in sure(self.process.stdout):
             self.lines.put(line.rstrip("\n"))
         self.lines.put(None)
 
-    def say(self, text):
+    def say(self, text: str) -> None:
         """Gives it a line."""
-        self.process.stdin.write(text + "\n")
-        self.process.stdin.flush()
+        pipe = sure(self.process.stdin)
+        pipe.write(text + "\n")
+        pipe.flush()
 
-    def line(self):
+    def line(self) -> str | None:
         """Its next line, or None at its end."""
         try:
             return self.lines.get(timeout=PATIENCE)
         except queue.Empty:
             raise Trouble(f"{self.name} has printed nothing for {PATIENCE} seconds") from None
 
-    def show_until(self, word):
+    def show_until(self, word: str) -> None:
         """Shows its lines up to the first that has this word in it."""
         while (line := self.line()) is not None:
             print(f"    {line}")
@@ -64,15 +66,15 @@ class Program:
                 return
         raise Trouble(f"{self.name} ended before '{word}' came, with status {self.process.wait()}")
 
-    def end(self):
+    def end(self) -> int:
         """Closes its input, shows what it still prints, and waits for its end."""
-        self.process.stdin.close()
+        sure(self.process.stdin).close()
         while (line := self.line()) is not None:
             print(f"    {line}")
         return self.process.wait(PATIENCE)
 
 
-def started():
+def started() -> tuple[Program, int]:
     """A venue of two gateways that is ready, and its port."""
     symbols.keep(JOURNAL, TRADED)
     for _ in range(TRIES):
@@ -88,14 +90,14 @@ def started():
     raise Trouble(f"in {TRIES} tries no two ports stayed free")
 
 
-def member(port, number):
+def member(port: int, number: int) -> Program:
     """A member of the venue, whose session has begun."""
     it = Program("trade", *TRADE, "--port", str(port), "--member", str(number), "--journal", JOURNAL)
     it.line()
     return it
 
 
-def show(why, *words):
+def show(why: str, *words: str) -> None:
     """Runs a program to its end, and shows what it prints."""
     shown = [os.path.basename(words[0]).replace("_", "-"), *words[1:]]
     print(f"\n{why}\n\n    {' '.join(shown)}")
@@ -105,7 +107,7 @@ def show(why, *words):
         raise Trouble(f"{shown[0]} ended with status {ran.returncode}")
 
 
-def trade(port):
+def trade(port: int) -> None:
     """Both members trade, and each hears its own side."""
     seller, buyer = member(port, 1), member(port, 2)
     print("\nC1 says: sell 100 ABC 50\n")
@@ -126,7 +128,7 @@ def trade(port):
             raise Trouble("a member's session didn't end well")
 
 
-def demo():
+def demo() -> None:
     venue, port = started()
     trade(port)
     print("\nThe venue is stopped by a file:\n\n    touch demo.journal.stop")

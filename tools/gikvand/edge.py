@@ -3,6 +3,7 @@ decimals in the place of steps, and both CompIDs. All of it stands in the edge's
 which a copy is read, so the edge may be in use."""
 import argparse
 import contextlib
+import itertools
 import os
 import re
 import shutil
@@ -22,7 +23,10 @@ BY_EDGE = "edge: "                          # So begins the text of what the edg
 PROBE, EXPIRY = "p", "e"                    # The kinds of its own requests: a question, and a cancel at the end of a day.
 CANCELLED, EXPIRED = "4", "C"               # The ExecTypes (150) of such a cancel, as the venue tells it and as the edge does.
 DAY_ENDED = {"150": EXPIRED, "39": EXPIRED, "58": f"{BY_EDGE}the day has ended"}
-REFUSED, MESSAGE = "x", "m"                 # The kind of a name that the edge refused; what is no name in the row of a turn.
+OPERATOR, OF_OPERATOR = "o", f"{BY_EDGE}the operator has cancelled this order"  # A cancel that an operator asks for, and its text.
+REFUSED, NO_NAMES = "x", ("m", "d")         # The kind of a name that the edge refused; what is no name in the row of a turn.
+FIRST, NOBODYS = 1, "nobody knows which desk sent this request"  # The first desk, and the text that it is told then.
+OF_DESK = re.compile(r"edge-desk-(\d+):(.*)", re.DOTALL)  # A name of one of the further desks of a member.
 PART = re.compile(rb"(.)(\d+) (\d+) ", re.DOTALL)  # Of a turn's row: what it is, its number, and how many bytes follow.
 TRIES = 20                                  # Looks at a record that is written to meanwhile.
 A_HEAD = 32                                 # Bytes of what a log of SQLite begins with: two of its words are others in each log.
@@ -31,8 +35,19 @@ Settings = dict[str, str]
 
 
 def add_option(parser: argparse.ArgumentParser) -> None:
-    parser.add_argument("--edge", metavar="FILE", help="the settings of gikvand-edge, for members behind it: their names, "
-                        "decimals and CompIDs")
+    parser.add_argument("--edge", metavar="FILE", action="append", default=[],
+                        help="the settings of gikvand-edge, for members behind it: their names, decimals and CompIDs; a folder stands "
+                        "for each NAME.cfg in it, and the option may be given several times")
+
+
+def files_of(path: str) -> list[str]:
+    """The files of settings that a path stands for: itself, or those in it, where it is a folder of services."""
+    if not os.path.isdir(path):
+        return [path]
+    names = sorted(it for it in os.listdir(path) if it.endswith(".cfg"))
+    if not names:
+        raise Trouble(f"{path} has no NAME.cfg: are these the settings of gikvand-edge?")
+    return [os.path.join(path, it) for it in names]
 
 
 def sections(path: str) -> list[tuple[str, Settings]]:
@@ -63,17 +78,35 @@ class Step:
 
 
 class Member(NamedTuple):
-    """A member behind the edge: its CompID and that of the edge, and the names by their numbers, with the kinds of these; behind
-    `first` a number without one has a name by the edge."""
-    comp_id: str
+    """A member behind the edge: the CompIDs of its desks and that of the edge, and the names by their numbers, with the kinds of
+    these; behind `first` a number without one has a name by the edge. A name of a further desk begins with that desk."""
+    comp_ids: dict[int, str]
     edge_id: str
     names: dict[int, str]
     kinds: dict[int, str]
     first: int
+    has_desks: bool  # Or it never had more than one.
+
+    def parted(self, number: str) -> tuple[int, str]:
+        """The desk that sent what has this number, and how that desk called it; desk 0 where nobody knows, or the settings don't have
+        it any more: then it has a name by the edge."""
+        at = int(number)
+        kept = self.names.get(at, "")
+        desk, name = (int(found[1]), found[2]) if (found := OF_DESK.fullmatch(kept)) else (FIRST, kept)
+        if kept and desk in self.comp_ids:
+            return desk, name
+        return 0, f"{'edge-lost-' if self.first and at >= self.first else ''}{number}"
 
     def name_of(self, number: str) -> str:
-        at = int(number)
-        return self.names.get(at) or f"{'edge-lost-' if self.first and at >= self.first else ''}{number}"
+        return self.parted(number)[1]
+
+    def desk_of(self, report: dict[str, str]) -> int:
+        """The desk that is told a report: the first one where nobody knows whose it is."""
+        return self.parted(report["11"])[0] or FIRST
+
+    def is_nobodys(self, report: dict[str, str]) -> bool:
+        """Whether the first of several desks is told that nobody knows whose a report is."""
+        return self.has_desks and any(not self.parted(report[tag])[0] for tag in NAMES if tag in report)
 
 
 def log_of(path: str) -> bytes:
@@ -106,14 +139,15 @@ def parts_of(row: bytes) -> Iterator[tuple[int, str, str]]:
         if not (head := PART.match(row, at)) or head.end() + int(head[3]) > len(row):
             raise ValueError("a turn can't be read")
         at = head.end() + int(head[3])
-        if (kind := head[1].decode("latin-1")) != MESSAGE:
+        if (kind := head[1].decode("latin-1")) not in NO_NAMES:
             yield int(head[2]), kind, row[head.end():at].decode("utf-8", "surrogateescape")
 
 
-def record_of(path: str) -> tuple[dict[int, str], dict[int, str], int]:
-    """Names and kinds by their numbers, and the first number, out of a member's record. A member that never came has none."""
+def record_of(path: str) -> tuple[dict[int, str], dict[int, str], int, bool]:
+    """Names and kinds by their numbers, the first number, and whether it is of several desks, out of a member's record. A member that
+    never came has none."""
     if not os.path.exists(path):
-        return {}, {}, 0
+        return {}, {}, 0, False
     try:
         with tempfile.TemporaryDirectory(prefix="edge-") as folder:
             with contextlib.closing(sqlite3.connect(copied(path, folder))) as record:
@@ -122,28 +156,31 @@ def record_of(path: str) -> tuple[dict[int, str], dict[int, str], int]:
                     for turn, in record.execute("SELECT did FROM turns ORDER BY turn"):
                         rows += parts_of(turn)
                 first = record.execute("SELECT first FROM session").fetchone()[0]
+                has_desks = bool(record.execute("SELECT 1 FROM sqlite_master WHERE name = 'desks'").fetchone())
     except (sqlite3.Error, TypeError, ValueError) as why:
         raise Trouble(f"{path} isn't a member's record of gikvand-edge: {why}") from why
     names = [it for it in rows if it[1] != REFUSED]
-    return {number: name for number, _, name in names}, {number: kind for number, kind, _ in names}, first
+    return {number: name for number, _, name in names}, {number: kind for number, kind, _ in names}, first, has_desks
 
 
-class Edge:
-    """The settings of an edge, and what they say of its members."""
+class Session(NamedTuple):
+    """A session, the file that has it, and what is in that for all."""
+    path: str
+    settings: Settings
+    common: Settings
 
-    def __init__(self, path: str) -> None:
-        self.path, parts = path, sections(path)
-        common: Settings = next((it for head, it in parts if head == "DEFAULT"), {})
-        self.common, self.sessions = common, [{**common, **it} for head, it in parts if head == "SESSION"]
-        if not self.sessions:
-            raise Trouble(f"{path} has no [SESSION]: are these the settings of gikvand-edge?")
-        self.steps = dict(map(self.step_of, self.need(self.sessions[0], "Symbols").split()))
-        self.known: dict[int, Member] = {}
-
-    def need(self, session: Settings, name: str) -> str:
-        if not (text := session.get(name.upper())):
+    def need(self, name: str) -> str:
+        if not (text := self.settings.get(name.upper())):
             raise Trouble(f"{self.path} has no {name}")
         return text
+
+    def folder(self, member: str) -> str:
+        """Where the member's record is."""
+        folder = self.need("EdgePath")
+        return os.path.join(folder, member) if folder == self.common.get("EDGEPATH") else folder  # One of [DEFAULT] is for all.
+
+    def steps(self) -> dict[str, Step]:
+        return dict(map(self.step_of, self.need("Symbols").split()))
 
     def step_of(self, word: str) -> tuple[str, Step]:
         symbol, _, step = word.partition(":")
@@ -152,20 +189,51 @@ class Edge:
         except ValueError:
             raise Trouble(f"{self.path} has Symbols that aren't of SYMBOL:STEP, as ABC:0.01: {word}") from None
 
+
+def sessions_of(path: str) -> list[Session]:
+    parts = sections(path)
+    common: Settings = next((it for head, it in parts if head == "DEFAULT"), {})
+    if not (found := [Session(path, {**common, **it}, common) for head, it in parts if head == "SESSION"]):
+        raise Trouble(f"{path} has no [SESSION]: are these the settings of gikvand-edge?")
+    return found
+
+
+class Edge:
+    """The settings of an edge, of one file or of several, and what they say of its members."""
+
+    def __init__(self, *paths: str) -> None:
+        self.path, self.sessions, self.comp_ids = ", ".join(paths), dict[str, Session](), dict[str, dict[int, str]]()
+        for it in itertools.chain.from_iterable(map(sessions_of, paths)):
+            self.add(it)
+        self.steps = next(iter(self.sessions.values())).steps()
+        self.known: dict[int, Member] = {}
+
+    def add(self, it: Session) -> None:
+        """Takes a session, which is of a further member of the same venue. A member is known by the session of its first desk."""
+        first, name = next(iter(self.sessions.values()), it), it.need("Member")
+        desk = it.settings.get("DESK", str(FIRST))
+        if desk.isdecimal():
+            self.comp_ids.setdefault(name, {})[int(desk)] = it.need("TargetCompID")
+        if desk != str(FIRST):
+            return
+        if other := self.sessions.get(name):
+            raise Trouble(f"{other.path} and {it.path} both have a session of {name}: give one of these files")
+        if it.need("Symbols").split() != first.need("Symbols").split():
+            raise Trouble(f"{it.path} has other Symbols than {first.path}: are both of one venue?")
+        self.sessions[name] = it
+
     def has(self, member: int) -> bool:
-        return any(it.get("MEMBER") == f"C{member}" for it in self.sessions)
+        return f"C{member}" in self.sessions
 
     def member(self, number: int) -> Member:
         """A member, by its session and its record."""
         if number not in self.known:
-            session = next((it for it in self.sessions if it.get("MEMBER") == f"C{number}"), None)
-            if session is None:
-                raise Trouble(f"{self.path} has no session of C{number}")
-            folder = self.need(session, "EdgePath")
-            if folder == self.common.get("EDGEPATH"):
-                folder = os.path.join(folder, f"C{number}")  # One of [DEFAULT] is for all.
-            names, kinds, first = record_of(os.path.join(folder, f"C{number}.db"))
-            self.known[number] = Member(self.need(session, "TargetCompID"), self.need(session, "SenderCompID"), names, kinds, first)
+            name = f"C{number}"
+            if not (session := self.sessions.get(name)):
+                raise Trouble(f"{self.path} has no session of {name}")
+            names, kinds, first, has_desks = record_of(os.path.join(session.folder(name), f"{name}.db"))
+            comp_ids = self.comp_ids[name]
+            self.known[number] = Member(comp_ids, session.need("SenderCompID"), names, kinds, first, has_desks or len(comp_ids) > 1)
         return self.known[number]
 
     def price_of(self, symbol: str, steps: str) -> str:
@@ -173,16 +241,38 @@ class Edge:
         return step.price_of(int(steps)) if step else steps
 
     def told(self, number: int, report: dict[str, str]) -> dict[str, str]:
-        """A report of the venue as its member knows it. An order that ends with its day has expired: no cancel was asked for."""
+        """A report of the venue as its member knows it. An order that ends with its day has expired: no cancel was asked for. One
+        that an operator has had cancelled says so."""
         member = self.member(number)
         if "41" in report and report.get("150") == CANCELLED and self.is_of_an_end(number, report):
             report = {tag: text for tag, text in {**report, "11": report["41"], **DAY_ENDED}.items() if tag != "41"}
+        else:
+            report = self.with_text(number, report)
         return {tag: member.name_of(text) if tag in NAMES else self.price_of(report.get("55", ""), text) if tag in PRICES else text
                 for tag, text in report.items()}
+
+    def with_text(self, number: int, report: dict[str, str]) -> dict[str, str]:
+        """A report with the text of the edge, where that has one for it: an operator has had an order cancelled, or nobody knows which
+        desk a request was of."""
+        text = OF_OPERATOR if self.is_of_operator(number, report) else report.get("58", "")
+        if self.member(number).is_nobodys(report):
+            text = f"{NOBODYS}: {text}" if text else NOBODYS
+        return {**report, "58": text} if text else report
+
+    def need_desk(self, word: str) -> None:
+        """Stops where no session is of this desk."""
+        member, desk = parted_word(word)
+        if desk and desk not in self.member(member).comp_ids:
+            raise Trouble(f"{self.path} has no session of {word}")
 
     def is_of_an_end(self, number: int, report: dict[str, str]) -> bool:
         """Whether a report answers a cancel at the end of a day."""
         return self.member(number).kinds.get(int(report["11"])) == EXPIRY
+
+    def is_of_operator(self, number: int, report: dict[str, str]) -> bool:
+        """Whether a report tells the end of an order by a cancel that an operator has asked for."""
+        is_end = "41" in report and (report["35"], report.get("150")) == ("8", CANCELLED)
+        return is_end and self.member(number).kinds.get(int(report["11"])) == OPERATOR
 
     def is_for_member(self, number: int, report: dict[str, str]) -> bool:
         """Whether the edge tells its member of this report: not of what it asked for by itself, nor of rejected messages. Where a
@@ -191,24 +281,42 @@ class Edge:
             return self.member(number).kinds.get(int(report["11"])) != PROBE and not self.is_of_an_end(number, report)
         return report["35"] == "8"
 
-    def reports(self, number: int, lines: Iterable[str]) -> Iterator[str]:
-        """The venue's reports to a member as it knows them."""
+    def reports(self, word: str, lines: Iterable[str]) -> Iterator[str]:
+        """The venue's reports to a member as it knows them, as of C1, or to one of its desks, as of C1.2."""
+        self.need_desk(word)
+        number, desk = parted_word(word)
         for line in lines:
             report = fields_of(line)
-            if self.is_for_member(number, report):
+            if self.is_for_member(number, report) and (not desk or self.member(number).desk_of(report) == desk):
                 yield text_of(self.told(number, report))
 
-    def logged(self, number: int, lines: Iterable[str]) -> Iterator[str]:
+    def logged(self, word: str, lines: Iterable[str]) -> Iterator[str]:
         """The same in the form in which a log is compared: that of the engine, whatever the order of its fields."""
-        return map(printed_as_compared, self.reports(number, lines))
+        return map(printed_as_compared, self.reports(word, lines))
 
-    def is_to(self, number: int, message: dict[str, str]) -> bool:
-        """Whether a message in a log is a report of the venue that the edge told this member."""
+    def is_to(self, word: str, message: dict[str, str]) -> bool:
+        """Whether a message in a log is a report of the venue that the edge told this member, or this desk of a member, and no answer
+        of the edge to who has asked how an order is."""
+        number, desk = parted_word(word)
         member = self.member(number)
-        if (message.get("49"), message.get("56")) != (member.edge_id, member.comp_id):
+        ids = member.edge_id, member.comp_ids[desk or FIRST]
+        if (message.get("49"), message.get("56")) != ids or message.get("150") == "I":
             return False
-        is_own = message.get("58", "").startswith(BY_EDGE) and message.get("150") != EXPIRED
+        is_own = message.get("58", "").startswith(BY_EDGE) and message.get("150") not in (CANCELLED, EXPIRED)
         return message.get("35") in ("8", "9") and not is_own
+
+
+def parted_word(word: str) -> tuple[int, int]:
+    """The member and the desk that a word names, as C1 or C1.2; desk 0 where it names none."""
+    member, _, desk = word.partition(".")
+    return int(member[1:]), int(desk or 0)
+
+
+def needed(paths: list[str], words: Iterable[str]) -> Edge | None:
+    """The edge whose settings these are, where there is one: without it no word names a desk."""
+    if not paths and (desks := [it for it in words if "." in it]):
+        raise Trouble(f"{desks[0]} is a desk of a member behind gikvand-edge: give --edge, with the edge's settings")
+    return of(paths)
 
 
 def text_of(fields: dict[str, str]) -> str:
@@ -226,11 +334,11 @@ def printed_as_compared(line: str) -> str:
     return as_compared({**fields_of(line), "60": value(line, "52") or ""})
 
 
-def of(path: str | None) -> Edge | None:
+def of(paths: list[str]) -> Edge | None:
     """The edge whose settings these are, where there is one."""
-    return Edge(path) if path else None
+    return Edge(*itertools.chain.from_iterable(map(files_of, paths))) if paths else None
 
 
 def ids_of(it: Edge) -> dict[str, str]:
     """The members' CompIDs by their names at the venue."""
-    return {f"C{number}": it.member(number).comp_id for number in MEMBERS if it.has(number)}
+    return {f"C{number}": it.member(number).comp_ids[FIRST] for number in MEMBERS if it.has(number)}

@@ -319,7 +319,8 @@ def keep_symbols(journal: str, copy: str) -> None:
 
 
 def begin(source: Source, copy: Copy, is_at_once: bool) -> Comparison:
-    """Finds where the copy goes on: at once, by its tail, where that shows it; else once all of it is compared."""
+    """Finds where the copy goes on: at once, by its tail, where that shows it; else once all of it is compared. No mark beside the
+    copy says what was compared before: it would be believed of a copy that somebody has changed since."""
     comparison = Comparison(copy, source)
     gate = copy.gate_by_tail(source) if is_at_once else None
     if gate is None or gate == copy.gate:  # (an empty copy is compared in no time)

@@ -1,5 +1,5 @@
 """Messages told at a glance. Nearly all that a journal has are exactly one right message, and an expression tells that
-of them far sooner than the rules do, which look at each byte. Of the others rules.py says what they are."""
+of them far sooner than those of fix.py do, which look at each byte. Of the others fix.py says what they are."""
 import re
 
 LONGEST = 297            # Of what the length of a frame (9) counts.

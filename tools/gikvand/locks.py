@@ -26,7 +26,8 @@ def has_open(pid: int, it: os.stat_result) -> bool:
 
 
 def holder(path: str) -> int | None:
-    """The process that has a lock on this file, or None. (Some file systems are told by other devices in the table.)"""
+    """The process that has a lock on this file, or None. The lock isn't tried: that might refuse it to a venued that starts. (Some
+    file systems are told by other devices in the table.)"""
     it = os.stat(path)
     device = f"{os.major(it.st_dev):02x}:{os.minor(it.st_dev):02x}"
     return next((pid for pid, where in rows_of(it.st_ino) if where == device or has_open(pid, it)), None)

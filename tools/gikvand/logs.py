@@ -6,8 +6,7 @@ from collections.abc import Iterable, Iterator
 from typing import BinaryIO
 
 from gikvand.edge import Edge, as_compared, printed_as_compared
-from gikvand.fix import REPORTS, fields_of, printed, value
-from gikvand.rules import sealed
+from gikvand.fix import REPORTS, fields_of, printed, sealed, value
 
 # A message, whose fields end with the byte 01, or with what the log has in its place. What is broken off is none.
 MESSAGE = re.compile(rb"8=FIX\.4\.4(\x01|\||\^A)9=\d+\1(?:(?!8=FIX).)*?\1(?:10=\d{3})(?!\d)", re.DOTALL)
@@ -49,7 +48,7 @@ def reports(file: BinaryIO, member: str, edge: Edge | None = None) -> Iterator[L
                 yield printed_as_compared(text) if edge else text, True, False
         return
     if edge:
-        yield from of_the_edge(file, int(member[1:]), edge, first)
+        yield from of_the_edge(file, member, edge, first)
         return
     for message in messages(file, first):
         head = HEADER.fullmatch(text := printed(message))
@@ -57,7 +56,7 @@ def reports(file: BinaryIO, member: str, edge: Edge | None = None) -> Iterator[L
             yield f"{head[1]}{head[2]}{head[3]}", is_whole(message), False
 
 
-def of_the_edge(file: BinaryIO, member: int, edge: Edge, first: bytes) -> Iterator[Logged]:
+def of_the_edge(file: BinaryIO, member: str, edge: Edge, first: bytes) -> Iterator[Logged]:
     """The same of a member behind the edge, in the form in which that gives them to compare. What was missed is sent again."""
     for message in messages(file, first):
         told = fields_of(printed(message))

@@ -21,13 +21,22 @@ COMMANDS = {"verify": "says whether a journal, or a copy of one, is whole and un
             "trade": "trades by words, as a member",
             "demo": "shows a venue of two members, from its start to its journal",
             "day": "draws the day that a journal holds",
-            "store-contract": "tries whether a venue may go on at another machine by a store"}
+            "store-contract": "tries whether a venue may go on at another machine by a store",
+            "provenance": "tells whether installed programs are those of a release"}
 DONE, FOUND, NOT_DONE = 0, 1, 2  # The statuses: as it should be; something was found that isn't; it couldn't be done.
 
 
 def module_of(name: str) -> types.ModuleType:
     """The module of a command."""
     return importlib.import_module(f"gikvand.{name.replace('-', '_')}")
+
+
+def parser_of(name: str) -> argparse.ArgumentParser:
+    """What reads the words of a command."""
+    command = module_of(name)
+    parser = argparse.ArgumentParser(prog=f"gikvand {name}", description=text_of(command), formatter_class=argparse.RawDescriptionHelpFormatter)
+    command.add_words(parser)
+    return parser
 
 
 def usage() -> str:
@@ -83,13 +92,9 @@ def run(name: str, words: list[str]) -> int:
     """Runs a command, and answers the status."""
     about = dict[str, str]()
     def work() -> int:
-        command = module_of(name)
-        parser = argparse.ArgumentParser(prog=f"gikvand {name}", description=text_of(command),
-                                         formatter_class=argparse.RawDescriptionHelpFormatter)
-        command.add_words(parser)
-        given = parser.parse_args(words)
+        given = parser_of(name).parse_args(words)
         about.update((it, value) for it, value in vars(given).items() if it == "journal" and value)
-        return command.run(given)
+        return module_of(name).run(given)
     return ended(f"gikvand {name}", work, about)
 
 

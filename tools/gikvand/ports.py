@@ -1,5 +1,6 @@
 """Where a venue listens: its address, the PORT of its words, and ports that are free."""
 import argparse
+import collections
 import random
 import socket
 
@@ -7,6 +8,7 @@ HOST = "127.0.0.1"
 MOST_GATEWAYS = 8
 LAST = 65535 - (MOST_GATEWAYS - 1)  # Those of the seven further gateways lie behind a PORT.
 PORTS = range(10000, 32000)  # Those above are given to clients by the system, and one may be in use at any moment.
+given = collections.deque[int](maxlen=1000)  # Ports that were given last: who asked for them may not listen yet.
 
 
 def port_of(word: str) -> int:
@@ -26,8 +28,10 @@ def is_free(port: int) -> bool:
 
 
 def free_port(count: int) -> int:
-    """A port that is free, as those behind it are, so many in all, at this moment."""
+    """A port that is free, as those behind it are, so many in all, at this moment. None of them was given just before."""
     while True:
         port = random.choice(PORTS)
-        if all(is_free(it) for it in range(port, port + count)):
+        those = range(port, port + count)
+        if not any(it in given for it in those) and all(map(is_free, those)):
+            given.extend(those)
             return port

@@ -2,7 +2,9 @@
 
     gikvand reports JOURNAL C1                     each report as FIX, with a bar behind each field
     gikvand reports JOURNAL C1 --after 17 --csv    what came behind the report with ExecID 17, as a table
-    gikvand reports JOURNAL C1 --edge edge.cfg     with the names and decimals of a member behind gikvand-edge
+    gikvand reports JOURNAL C1 --edge /etc/gikvand-edge/C1.cfg
+                                                   with the names and decimals of a member behind gikvand-edge; of one of its
+                                                   desks as C1.2
 
 Who was away, or whose connection was ended, gets nothing later: this is how it learns what it missed. Reports that refuse a
 cancel or a replace, or reject a message, have no ExecID, so of these all are shown that stand behind the last report up to
@@ -22,7 +24,7 @@ from gikvand.tables import Row
 
 
 def member_of(word: str) -> str:
-    if not re.fullmatch("C[1-8]", word):
+    if not re.fullmatch(r"C[1-8](\.[1-8])?", word):
         raise argparse.ArgumentTypeError(f"not a member, C1 to C8: {word}")
     return word
 
@@ -35,7 +37,7 @@ def exec_id(word: str) -> int:
 
 def add_words(parser: argparse.ArgumentParser) -> None:
     parser.add_argument("journal", metavar="JOURNAL", help="the journal's file")
-    parser.add_argument("member", metavar="Cn", type=member_of, help="the member, C1 to C8")
+    parser.add_argument("member", metavar="Cn", type=member_of, help="the member, C1 to C8, or a desk of it, as C1.2")
     parser.add_argument("--after", metavar="EXECID", type=exec_id, default=0, help="only what came behind this ExecID (17)")
     symbols.add_option(parser)
     edge.add_option(parser)
@@ -79,11 +81,11 @@ def row_of(report: str) -> Row:
 
 
 def run(given: argparse.Namespace) -> int:
-    traded, behind_edge = symbols.needed(given.journal, given.symbols), edge.of(given.edge)
+    traded, behind_edge = symbols.needed(given.journal, given.symbols), edge.needed(given.edge, [given.member])
     told = Events(given.journal, traded)
-    lines: Iterable[str] = told.told_to(given.member)
+    lines: Iterable[str] = told.told_to(given.member[:len("C1")])
     if behind_edge:
-        lines = behind_edge.reports(int(given.member[1:]), lines)
+        lines = behind_edge.reports(given.member, lines)
     symbols.warn_of_strangers("reports", given.journal, traded)
     write = tables.writer(given, list(NAMES.values()), row_of, str)
     for report in behind(told, lines, given.after):

@@ -15,7 +15,7 @@ import argparse
 
 from gikvand.ports import port_of
 from gikvand.store_tries import Contract
-from gikvand.words import Trouble
+from gikvand.words import Trouble, positive
 
 MACHINES = 3
 
@@ -27,12 +27,6 @@ def seconds_of(word: str) -> float:
     except ValueError:
         pass
     raise argparse.ArgumentTypeError(f"not a number of seconds: {word}")
-
-
-def rounds_of(word: str) -> int:
-    if not word.isdecimal() or not int(word):
-        raise argparse.ArgumentTypeError(f"not a number above 0: {word}")
-    return int(word)
 
 
 def folder_of(word: str) -> str:
@@ -50,7 +44,7 @@ def add_words(parser: argparse.ArgumentParser) -> None:
     parser.add_argument("--start", metavar="WORDS", help="what boots it again, with the store")
     parser.add_argument("--stay", metavar="SECONDS", type=seconds_of, default=10.0,
                         help="for so long a holder stands still, and a late write waits; 10, if left out")
-    parser.add_argument("--rounds", metavar="N", type=rounds_of, default=100, help="rounds of the stale look; 100, if left out")
+    parser.add_argument("--rounds", metavar="N", type=positive, default=100, help="rounds of the stale look; 100, if left out")
     parser.add_argument("--port", metavar="PORT", type=port_of, default=9801, help="the real venue's port; 9801, if left out")
 
 

@@ -6,12 +6,12 @@ import sys
 
 from gikvand import files
 from gikvand.journals import Damaged, NotAJournal, Reader
-from gikvand.rules import SYMBOL
 from gikvand.words import Trouble, some
 
 MOST = 8
+SYMBOL = re.compile("[A-Z0-9]{1,8}")
 MODE = 0o666  # Of the file, but for what the user's mask keeps: it holds nothing that the journal's readers don't know.
-OF_AN_ORDER = re.compile(rb"\x0135=D\x01.*?\x0155=([A-Z0-9]{1,8})\x01")
+OF_AN_ORDER = re.compile(rb"\x0135=D\x01.*?\x0155=(%b)\x01" % SYMBOL.pattern.encode())
 
 
 def place_of(journal: str) -> str:
@@ -20,7 +20,7 @@ def place_of(journal: str) -> str:
 
 def are_symbols(words: list[str]) -> bool:
     """Whether these words can be a venue's symbols."""
-    spelled = all(SYMBOL.fullmatch(it.encode()) for it in words)
+    spelled = all(SYMBOL.fullmatch(it) for it in words)
     return spelled and 1 <= len(words) <= MOST and len(set(words)) == len(words)
 
 

@@ -78,7 +78,8 @@ class Tally:
 
     def __init__(self, symbols: list[str]) -> None:
         self.commands = self.outputs = 0
-        self.rates, self.markets = Rates(), {it: Market() for it in symbols}
+        self.rates = Rates()
+        self.markets: dict[str, Market] = collections.defaultdict(Market, {it: Market() for it in symbols})
         self.members: dict[str, Member] = collections.defaultdict(Member)
         self.resting: dict[str, tuple[str, int]] = {}  # By OrderID (37) whose order it is, and what it has left.
         self.sender: Member | None = None              # Of the last command, until its first report.

@@ -40,13 +40,13 @@ import subprocess
 import sys
 import threading
 import time
-from collections.abc import Iterator
+from collections.abc import Callable, Iterator
 
 from gikvand import files, symbols
 from gikvand.fix import fields_of, framed, parted, printed
 from gikvand.ports import HOST, port_of
 from gikvand.programs import REPLAY, VENUED, WHERE, Replay, Trouble, need
-from gikvand.words import text_of
+from gikvand.words import sure, text_of
 
 OWN_JOURNAL, OWN_SYMBOLS = "trade.journal", ["ABC"]
 TERMS = {"ioc": "3", "fok": "4"}
@@ -61,6 +61,8 @@ NO_MARKET_ORDERS = "the venue takes no market orders: its journal is an old one,
 PROMPT = "> "
 PATIENCE, PAUSE = 10, 0.05  # Seconds to wait for an answer, and for what else may come behind it.
 
+Fields = dict[str, str]  # Of a message, by tag.
+
 
 @dataclasses.dataclass
 class Order:
@@ -74,75 +76,77 @@ class Order:
     total: int
     left: int
 
-    def __str__(self):
+    def __str__(self) -> str:
         return f"{SIDES[self.side]} {self.total} {self.symbol} {f'at {self.price}' if self.price else 'at any price'}"
 
 
 class Orders:
     """All orders of this member that reports have told of, by OrderID, and the greatest ClOrdID that was accepted."""
 
-    def __init__(self, greatest=0, scope=""):
-        self.known, self.greatest, self.scope = {}, greatest, scope
+    def __init__(self, greatest: int = 0, scope: str = "") -> None:
+        self.known: dict[str, Order] = {}
+        self.greatest, self.scope = greatest, scope
 
-    def take(self, report):
+    def take(self, report: Fields) -> None:
         """Takes an execution report in. One that refuses an order changes nothing."""
         if report["150"] == "8":
             return
-        terms = [report.get(tag) for tag in ("37", "11", "54", "55", "44")]
-        self.known[report["37"]] = Order(*terms, int(report["38"]), int(report["151"]))
+        number, name, side, symbol = (report[tag] for tag in ("37", "11", "54", "55"))
+        self.known[number] = Order(number, name, side, symbol, report.get("44"), int(report["38"]), int(report["151"]))
         self.greatest = max(self.greatest, int(report["11"]))
 
-    def of(self, number):
+    def of(self, number: str) -> Order:
         """The order of this number. One that no report told of has no ClOrdID to name it by, so it is refused here."""
         if number not in self.known:
             raise ValueError(f"there is no order {number} of yours{self.scope}; 'orders' lists those that rest")
         return self.known[number]
 
-    def resting(self):
+    def resting(self) -> list[str]:
         """A line for each order that has something left."""
         found = [f"order {it.number}: {it}, {it.left} left" for it in self.known.values() if it.left]
         return found or [f"no order rests{self.scope}"]
 
 
-def now():
+def now() -> str:
     """The time as FIX writes it."""
     return datetime.datetime.now(datetime.timezone.utc).strftime("%Y%m%d-%H:%M:%S")
 
 
-def recorded(journal, member, traded):
+def recorded(journal: str, member: str, traded: list[str]) -> Orders:
     """The orders of this member out of the journal. A missing one has none."""
     orders = Orders()
-    for line in Replay(journal, member, traded) if os.path.exists(journal) else ():
-        if line.startswith("35=8|"):
-            orders.take(fields_of(line))
+    if os.path.exists(journal):
+        for line in Replay(journal, member, traded):
+            if line.startswith("35=8|"):
+                orders.take(fields_of(line))
     return orders
 
 
 class Venue:
     """A venued of our own on a journal, as two ends of bytes."""
 
-    def __init__(self, journal, traded):
+    def __init__(self, journal: str, traded: list[str]) -> None:
         words = [VENUED, "-", journal, "1", *traded]
         self.process = subprocess.Popen(words, stdin=subprocess.PIPE, stdout=subprocess.PIPE, bufsize=0)
-        self.ready = self.process.stdout
+        self.ready, self.input = sure(self.process.stdout), sure(self.process.stdin)
 
-    def send(self, data):
+    def send(self, data: bytes) -> None:
         try:
-            self.process.stdin.write(data)
+            self.input.write(data)
         except BrokenPipeError:
             pass  # Its end is seen where its bytes end.
 
-    def receive(self, seconds):
+    def receive(self, seconds: float) -> bytes | None:
         """What has come within this time: None for nothing yet, no bytes at the end."""
         if not select.select([self.ready], [], [], seconds)[0]:
             return None
         return os.read(self.ready.fileno(), 65536)
 
-    def close(self):
+    def close(self) -> None:
         """No more is sent. What is due still comes."""
-        self.process.stdin.close()
+        self.input.close()
 
-    def fault(self):
+    def fault(self) -> str | None:
         """How it ended, where that was a fault."""
         status = self.process.wait()
         return f"venued ended with status {status} ({WHERE})" if status else None
@@ -151,7 +155,7 @@ class Venue:
 class Connection:
     """A connection to a venue that listens, as two ends of bytes."""
 
-    def __init__(self, port):
+    def __init__(self, port: int) -> None:
         try:
             self.ready = socket.create_connection((HOST, port), PATIENCE)
         except OSError as why:
@@ -159,13 +163,13 @@ class Connection:
         self.ready.setsockopt(socket.IPPROTO_TCP, socket.TCP_NODELAY, 1)
         self.is_closed = self.was_left = False
 
-    def send(self, data):
+    def send(self, data: bytes) -> None:
         try:
             self.ready.sendall(data)
         except OSError:
             pass  # Its end is seen where its bytes end.
 
-    def receive(self, seconds):
+    def receive(self, seconds: float) -> bytes | None:
         """What has come within this time: None for nothing yet, no bytes at the end."""
         if not select.select([self.ready], [], [], seconds)[0]:
             return None
@@ -176,7 +180,7 @@ class Connection:
         self.was_left = self.was_left or not data and not self.is_closed
         return data
 
-    def close(self):
+    def close(self) -> None:
         """No more is sent. What is due still comes."""
         self.is_closed = True
         try:
@@ -184,7 +188,7 @@ class Connection:
         except OSError:
             pass
 
-    def fault(self):
+    def fault(self) -> str | None:
         """How it ended, where the venue ended it first."""
         self.ready.close()
         return "the venue closed the connection" if self.was_left else None
@@ -193,11 +197,11 @@ class Connection:
 class Session:
     """One FIX session over a venue: frames, numbers and times."""
 
-    def __init__(self, venue, member, shows_fix):
+    def __init__(self, venue: Venue | Connection, member: str, shows_fix: bool) -> None:
         self.venue, self.member, self.shows_fix = venue, member, shows_fix
         self.number, self.rest, self.is_over = 0, b"", False
 
-    def send(self, kind, body):
+    def send(self, kind: str, body: str) -> str:
         """Sends a message of this type with this body behind its header, and gives its MsgSeqNum."""
         self.number += 1
         message = framed(f"35={kind}|49={self.member}|56=VENUE|34={self.number}|52={now()}|{body}")
@@ -206,7 +210,7 @@ class Session:
         self.venue.send(message)
         return str(self.number)
 
-    def messages(self, seconds):
+    def messages(self, seconds: float) -> list[Fields]:
         """The whole messages that have come, after this time at most. Where the bytes end the session is over."""
         data = self.venue.receive(seconds)
         self.is_over = self.is_over or data == b""
@@ -219,11 +223,11 @@ class Session:
 class Trader:
     """A member's requests, and what comes of them in words."""
 
-    def __init__(self, session, orders):
+    def __init__(self, session: Session, orders: Orders) -> None:
         self.session, self.orders = session, orders
         self.next_name, self.all_went = orders.greatest + 1, True
 
-    def log_on(self):
+    def log_on(self) -> None:
         """Logs on. A venue that serves another session of this member doesn't answer until that has ended."""
         self.session.send("A", "98=0|108=0|141=Y|")
         while not self.session.is_over:
@@ -235,11 +239,11 @@ class Trader:
                 raise Trouble(f"no answer to the Logon: does another session of {self.session.member} last?")
         raise Trouble(self.session.venue.fault() or "the session ended before it began")
 
-    def refuse(self, why):
+    def refuse(self, why: str) -> None:
         self.all_went = False
         print(why)
 
-    def do(self, line):
+    def do(self, line: str) -> bool:
         """Does what a line asks. Answers whether there may be more."""
         words = line.split()
         try:
@@ -255,7 +259,7 @@ class Trader:
             self.refuse(f"not sent: {why}")
         return not self.session.is_over
 
-    def request(self, words):
+    def request(self, words: list[str]) -> None:
         """Sends a request, and shows what comes until its own answer is there."""
         name = str(self.next_name)
         kind, body = message_of(words, name, self.orders)
@@ -270,19 +274,19 @@ class Trader:
                 return self.show_rest()
         self.refuse("the session ended before an answer came")
 
-    def show_rest(self):
+    def show_rest(self) -> None:
         """Shows what else comes until nothing has come for a pause."""
         while came := self.session.messages(PAUSE):
             self.show(came)
 
-    def show(self, messages):
+    def show(self, messages: list[Fields]) -> None:
         for message in messages:
             text, went = words_of(message, self.orders)
             self.all_went = self.all_went and went
             if text:
                 print(text, flush=True)
 
-    def end(self):
+    def end(self) -> int:
         """Closes our end, shows what was still due, and answers the status."""
         self.session.venue.close()
         while not self.session.is_over:
@@ -292,7 +296,7 @@ class Trader:
         return 0 if self.all_went else 1
 
 
-def message_of(words, name, orders):
+def message_of(words: list[str], name: str, orders: Orders) -> tuple[str, str]:
     """The type and the body of the message that asks for this."""
     if not all(word.isascii() and word.isprintable() and "|" not in word for word in words):
         raise ValueError("a word has a character that no field here can have")
@@ -314,7 +318,7 @@ def message_of(words, name, orders):
     raise ValueError(f"'{' '.join(words)}' isn't one of the words; 'help' lists them")
 
 
-def words_of(message, orders):
+def words_of(message: Fields, orders: Orders) -> tuple[str | None, bool]:
     """What a message of the venue says, and whether it is no refusal."""
     kind = message["35"]
     if kind == "8":
@@ -334,7 +338,7 @@ def words_of(message, orders):
     return None, True
 
 
-def words_of_report(report, orders):
+def words_of_report(report: Fields, orders: Orders) -> tuple[str, bool]:
     """What an execution report says, and whether it is no refusal."""
     if report["150"] == "8":
         return f"order refused: {ORDER_REFUSED[report['103']]}", False
@@ -350,7 +354,7 @@ def words_of_report(report, orders):
     return f"{event} replaced: {order}, {order.left or 'nothing'} left (ClOrdID {order.name})", True
 
 
-def lines(trader, prompt):
+def lines(trader: Trader, prompt: str) -> Iterator[str]:
     """The lines of standard input. Reports that come meanwhile are shown."""
     buffer = b""
     print(prompt, end="", flush=True)
@@ -377,12 +381,12 @@ class Over(Exception):
 class Meanwhile(threading.Thread):
     """Shows what comes while a line is edited, and begins the line anew below it."""
 
-    def __init__(self, trader, prompt, edited):
+    def __init__(self, trader: Trader, prompt: str, edited: Callable[[], str]) -> None:
         super().__init__(daemon=True)
         self.trader, self.prompt, self.edited, self.may = trader, prompt, edited, threading.Lock()
         self.is_needed, self.is_edited = True, False
 
-    def run(self):
+    def run(self) -> None:
         session = self.trader.session
         while self.is_needed and not session.is_over:
             if not select.select([session.venue.ready], [], [], PAUSE)[0]:
@@ -396,7 +400,7 @@ class Meanwhile(threading.Thread):
                         signal.pthread_kill(threading.main_thread().ident, signal.SIGUSR1)
 
 
-def edited_line(trader, prompt, meanwhile) -> str | None:
+def edited_line(trader: Trader, prompt: str, meanwhile: Meanwhile) -> str | None:
     """A line, or None at the end of the input or of the session, which ends a line that is edited, and nothing else."""
     try:
         try:
@@ -408,12 +412,12 @@ def edited_line(trader, prompt, meanwhile) -> str | None:
         return None
 
 
-def edited_lines(trader, prompt) -> Iterator[str]:
+def edited_lines(trader: Trader, prompt: str) -> Iterator[str]:
     """The lines of a terminal, edited with the keys of readline. Reports that come meanwhile are shown."""
     import readline  # (here, since no other command wants it)
 
     meanwhile = Meanwhile(trader, prompt, readline.get_line_buffer)
-    def is_over(*_):
+    def is_over(*_: object) -> None:
         if meanwhile.is_edited:
             raise Over
     signal.signal(signal.SIGUSR1, is_over)
@@ -436,7 +440,7 @@ def has_readline() -> bool:
         return False
 
 
-def own_venue(given):
+def own_venue(given: argparse.Namespace) -> Trader:
     """The trader of C1 at a venued of its own, which serves the journal."""
     if given.member != 1:
         raise Trouble("without --port only the member 1 is served")
@@ -450,7 +454,7 @@ def own_venue(given):
     return Trader(Session(Venue(journal, traded), "C1", given.fix), orders)
 
 
-def listening_venue(given):
+def listening_venue(given: argparse.Namespace) -> Trader:
     """The trader of a member at a venue that listens: gateway K has the port PORT + K - 1."""
     member = f"C{given.member}"
     if given.journal:
@@ -464,7 +468,7 @@ def listening_venue(given):
     return trader
 
 
-def asked(trader) -> Iterator[str]:
+def asked(trader: Trader) -> Iterator[str]:
     """The lines of standard input: of a terminal, or of a file or a pipe."""
     if has_readline():
         return edited_lines(trader, PROMPT)

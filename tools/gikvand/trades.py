@@ -3,7 +3,8 @@
     gikvand trades JOURNAL                   in words
     gikvand trades JOURNAL --csv             as a table, with a first line of names
     gikvand trades JOURNAL --json --after 17 as JSON, an object a line: only those behind the place 17
-    gikvand trades JOURNAL --edge edge.cfg   with the CompIDs, names and decimals of members behind gikvand-edge
+    gikvand trades JOURNAL --edge /etc/gikvand-edge
+                                             with the CompIDs, names and decimals of members behind gikvand-edge
 
 A trade's place is the ExecID of the first of its two reports, that of the order that rested; the other's is the next number.
 Places rise through the whole history and never change, so who has all up to a place asks for what is behind it. A place behind
@@ -75,7 +76,9 @@ def as_known(behind: edge.Edge, row: Row, ids: dict[str, str]) -> Row:
     for side in SIDES.values():
         member = str(row[side])
         if member in ids:
-            row |= {side: ids[member], f"{side}ClOrdID": behind.member(int(member[1:])).name_of(str(row[f"{side}ClOrdID"]))}
+            known = behind.member(int(member[1:]))
+            desk, name = known.parted(str(row[f"{side}ClOrdID"]))
+            row |= {side: known.comp_ids.get(desk, ids[member]), f"{side}ClOrdID": name}
     return row
 
 

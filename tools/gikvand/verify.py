@@ -2,8 +2,9 @@
 
     gikvand verify JOURNAL                      the journal alone
     gikvand verify JOURNAL C1=c1.log C2=c2.log  and whether the reports in members' logs are those that it tells
-    gikvand verify JOURNAL C1=c1.log --edge edge.cfg
-                                                the same of members behind gikvand-edge, whose settings these are
+    gikvand verify JOURNAL C1=c1.log --edge /etc/gikvand-edge
+                                                the same of members behind gikvand-edge, whose settings these are; the log
+                                                of one of several desks is that of C1.2
 
 It looks at the header and at each block; at each entry, which has to be a message of its member with the right length and
 CheckSum, as every message that a session publishes; at the bytes behind the last gate; and at the snapshots, by venue-replay.
@@ -21,12 +22,12 @@ from collections.abc import Iterator
 from typing import BinaryIO, NamedTuple
 
 from gikvand import edge, files, locks, mends, symbols
+from gikvand.fix import ORDERS, fields, has_header, next_frame
 from gikvand.glance import is_published
 from gikvand.journals import HEAD, Block, Damaged, Entry, NotAJournal, Reader, exactly
 from gikvand.logs import Compared, reports
 from gikvand.programs import Replay, false_snapshot
-from gikvand.rules import NEEDED, fields, has_header, next_frame
-from gikvand.words import Trouble, some
+from gikvand.words import Trouble, some, sure
 
 SHOWN = 10  # So many findings of a kind are shown, and the others counted.
 
@@ -38,7 +39,7 @@ class Log(NamedTuple):
 
 
 def log_of(word: str) -> Log:
-    found = re.fullmatch(r"(C[1-8])=(.+)", word)
+    found = re.fullmatch(r"(C[1-8](?:\.[1-8])?)=(.+)", word)
     if not found:
         raise argparse.ArgumentTypeError(f"not a member and its log, as C1=FILE: {word}")
     return Log(*found.groups())
@@ -47,7 +48,7 @@ def log_of(word: str) -> Log:
 def add_words(parser: argparse.ArgumentParser) -> None:
     parser.add_argument("journal", metavar="JOURNAL", help="the journal's file")
     parser.add_argument("logs", metavar="Cn=FILE", nargs="*", default=[], type=log_of,
-                        help="a member, and a log of what it was told")
+                        help="a member, or a desk of it as C1.2, and a log of what it was told")
     symbols.add_option(parser)
     edge.add_option(parser)
 
@@ -59,7 +60,7 @@ def fault_of(entry: Entry) -> str | None:
     found = next_frame(entry.message)
     if not found or found[1] or found[0] != entry.message:
         return (found and found[1]) or "not exactly one message"
-    told = fields(entry.message)
+    told = sure(fields(entry.message))
     if not has_header(told):
         return "bad header"
     head = dict(told[:7])
@@ -67,7 +68,7 @@ def fault_of(entry: Entry) -> str | None:
         return "wrong party"
     if head[34] == b"1":
         return "wrong number: the first message of a session is its Logon"
-    return None if head[35] in NEEDED else "no order, cancel or replace"
+    return None if head[35] in ORDERS else "no order, cancel or replace"
 
 
 class Report:
@@ -180,8 +181,8 @@ def look_at_snapshots(given: argparse.Namespace, journal: Journal, report: Repor
 
 def look_at_log(given: argparse.Namespace, log: Log, behind: edge.Edge | None, report: Report) -> None:
     """Looks at a member's log. One that has none of its reports is another's, or of a form that isn't read."""
-    replay = Replay(given.journal, log.member, symbols.needed(given.journal, given.symbols))
-    told = behind.logged(int(log.member[1:]), replay) if behind else iter(replay)
+    replay = Replay(given.journal, log.member[:len("C1")], symbols.needed(given.journal, given.symbols))
+    told = behind.logged(log.member, replay) if behind else iter(replay)
     with files.opened(log.path) as file:
         compared = Compared(told)
         report.each(f"{log.path}: {line}" for line in compared.compare(reports(file, log.member, behind)))
@@ -205,7 +206,7 @@ def run(given: argparse.Namespace) -> int:
         raise Trouble(why)
     with files.opened(given.journal) as file:
         need_files(given)
-        behind = edge.of(given.edge)
+        behind = edge.needed(given.edge, [it.member for it in given.logs])
         journal = look_at_blocks(given.journal, file, report)
     if journal and not journal.damage:
         look_at_snapshots(given, journal, report)

@@ -45,7 +45,7 @@ class Socket(NamedTuple):
 
 
 class Member(NamedTuple):
-    """A member's port: its connections, how many others wait, and the bytes that the system holds for it and of it."""
+    """A member's port: its connections, how many others wait there still, and the bytes that the system holds for it and of it."""
     name: str
     port: int
     connections: int
@@ -116,10 +116,10 @@ def members_at(ports: range) -> Iterator[Member]:
     rows = [it for it in sockets() if it.port in ports]
     for number, port in enumerate(ports, 1):
         here = [it for it in rows if it.port == port]
-        listener = next((it for it in here if it.state == LISTENS), None)
         taken = [it for it in here if it.state == ESTABLISHED and it.is_taken]
-        if listener:
-            yield Member(f"C{number}", port, len(taken), listener.came, max((it.sent for it in taken), default=0),
+        waiting = [it for it in here if it.state == ESTABLISHED and not it.is_taken]  # (the listener's queue has closed ones too)
+        if any(it.state == LISTENS for it in here):
+            yield Member(f"C{number}", port, len(taken), len(waiting), max((it.sent for it in taken), default=0),
                          max((it.came for it in taken), default=0))
 
 

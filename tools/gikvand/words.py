@@ -1,5 +1,6 @@
-"""Counts and times in words, as the commands print them, what a module says of itself, what went wrong, and what
-has to be there."""
+"""Counts and times in words, as the commands print them, numbers in words of the command line, what a module says of itself, what went
+wrong, and what has to be there."""
+import argparse
 import ast
 import datetime
 import types
@@ -17,6 +18,13 @@ def sure(it: T | None) -> T:
     if it is None:
         raise TypeError("what has to be there isn't")
     return it
+
+
+def positive(word: str) -> int:
+    """A number above 0, as a word of a command line."""
+    if not word.isdecimal() or not int(word):
+        raise argparse.ArgumentTypeError(f"not a number above 0: {word}")
+    return int(word)
 
 
 def some(count: int, noun: str) -> str:

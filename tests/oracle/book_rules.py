@@ -3,8 +3,9 @@ test: tests import it. It was written from that page alone, and shares nothing w
 from dataclasses import dataclass
 from typing import NamedTuple
 
-from gikvand.rules import Field, asks_for_market, body, order_fault, read_order
+from gikvand.fix import Field, body
 from gikvand.words import sure
+from oracle.order_rules import asks_for_market, order_fault, read_order
 
 MOST_RESTING = 4096
 
@@ -15,6 +16,11 @@ class Report(NamedTuple):
     kind: str
     when: bytes
     body: bytes
+
+
+def shown(data: bytes) -> str:
+    """These bytes as a line of text, with the byte 01 as a bar."""
+    return data.decode("latin-1").replace("\x01", "|")
 
 
 @dataclass(eq=False)

@@ -2,8 +2,8 @@
 """What venue-replay does, in plain Python: the state of a journal, from its newest snapshot on or as a whole, whether its
 snapshots are true, and an old journal carried over. It shares nothing with the venue's own code.
 
-    tests/replay_rules.py JOURNAL book|Cn|snapshot|check SYMBOL...
-    tests/replay_rules.py JOURNAL carry NEW
+    tests/oracle/replay_rules.py JOURNAL book|Cn|snapshot|check SYMBOL...
+    tests/oracle/replay_rules.py JOURNAL carry NEW
 
 It takes the words of venue-replay, and prints what that has to print; tests import it.
 """
@@ -13,16 +13,16 @@ import sys
 from collections.abc import MutableMapping
 from typing import NamedTuple
 
-ROOT = os.path.dirname(os.path.dirname(os.path.abspath(__file__)))
-sys.path.insert(0, os.path.join(ROOT, "dev"))
+ROOT = os.path.dirname(os.path.dirname(os.path.dirname(os.path.abspath(__file__))))
+sys.path[:0] = [os.path.join(ROOT, "tests"), os.path.join(ROOT, "dev")]
 
 import with_scripts  # (in front of what stands there, and of what an older Python can't read)
-import snapshot_rules
-from book_rules import Book, Order, Report
 from gikvand import journals
 from gikvand.journals import Damaged, Entry, Journal, NotAJournal, Snapshot
-from gikvand.rules import SYMBOL, shown
-from snapshot_rules import BadSnapshot
+from oracle import snapshot_rules
+from oracle.book_rules import Book, Order, Report, shown
+from oracle.order_rules import SYMBOL
+from oracle.snapshot_rules import BadSnapshot
 
 USAGE = "usage: venue-replay JOURNAL book|Cn|snapshot|check SYMBOL... or venue-replay JOURNAL carry NEW"
 WRONG_WORDS: list[list[str]] = [

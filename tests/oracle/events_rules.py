@@ -2,7 +2,7 @@
 """What venue-events does, in plain Python, by docs/EVENTS.md and docs/PROFILE.md: what each command of a journal did. It
 shares nothing with the venue's own code.
 
-    tests/events_rules.py JOURNAL once|follow [--after N] SYMBOL...
+    tests/oracle/events_rules.py JOURNAL once|follow [--after N] SYMBOL...
 
 It takes the words of venue-events, and prints what that has to print; tests import it. It looks once, whichever word it is.
 """
@@ -11,16 +11,16 @@ import re
 import sys
 from typing import NamedTuple
 
-ROOT = os.path.dirname(os.path.dirname(os.path.abspath(__file__)))
-sys.path.insert(0, os.path.join(ROOT, "dev"))
+ROOT = os.path.dirname(os.path.dirname(os.path.dirname(os.path.abspath(__file__))))
+sys.path[:0] = [os.path.join(ROOT, "tests"), os.path.join(ROOT, "dev")]
 
 import with_scripts  # (in front of what stands there, and of what an older Python can't read)
-from book_rules import Book, Order, turn_of
 from gikvand import journals
 from gikvand.journals import Damaged, Entry, NotAJournal
-from gikvand.rules import asks_for_market, order_fault, read_order
 from gikvand.words import sure
-from replay_rules import Outcome, are_symbols, said
+from oracle.book_rules import Book, Order, turn_of
+from oracle.order_rules import asks_for_market, order_fault, read_order
+from oracle.replay_rules import Outcome, are_symbols, said
 
 USAGE = "usage: venue-events JOURNAL once|follow [--after N] SYMBOL..."
 WRONG_WORDS: list[list[str]] = [

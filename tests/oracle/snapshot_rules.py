@@ -3,9 +3,9 @@ import it. All numbers are big-endian: how many messages and outputs there were,
 orders rest, and 47 bytes for each of these, by symbol in the order of the table, buys before sells, each ahead of the next."""
 import struct
 
-from book_rules import MOST_RESTING, Book, Order, turn_of
 from gikvand.journals import MEMBERS, MOST_ENTRIES, ROW, SNAPSHOT_HEAD
-from gikvand.rules import NAMES, UNITS
+from oracle.book_rules import MOST_RESTING, Book, Order, turn_of
+from oracle.order_rules import NAMES, UNITS
 
 HEAD = struct.Struct(">QQ8QH")
 ORDER = struct.Struct(">QBQBBIIIQQ")
