@@ -1,5 +1,6 @@
 pub mod Looks
 pub mod Behind
+pub mod Buffers
 pub mod Words
 pub mod CommandWords
 pub mod TextStores

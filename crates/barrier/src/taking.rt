@@ -68,7 +68,7 @@ pub fn take<L: Logic, const N: usize, const M: usize, const G: usize>(
     rings: &Rings<L, N, M, G>,
     seat: &mut GatewaySeat<L>,
     buf: &mut [u8; LONGEST_MESSAGE],
-) -> Take
+) -> Take // promise 9
     requires at { IsAt rings.now seat.old }
     ensures step { SamePlace seat.old seat.new }
     ensures nothing { result ≡ Take.Nothing → seat.new.who ≡ looked seat.old.who marshalled seat.old.who.sequence }

@@ -1,6 +1,6 @@
 -- An order that a request amends: it stays an order of the book under its new name.
 use Rattle.std.proofs.Common.{◌≡◌, ℕ, ◌-◌, ◌<◌, ◌≤◌, Bool, true, false, ◌&&◌, not, nat_eq, nat_le, List, [], ◌∷◌, ◌++◌}
-use Rattle.std.proofs.Common.{map, refl, ap, sym, subst, ◌∙◌, arith, Option, Some, None}
+use Rattle.std.proofs.Common.{length, map, refl, ap, sym, subst, ◌∙◌, arith, Option, Some, None}
 use Rattle.std.specs.Prelude.{⊤, find, slice_index, if◌then◌else◌, MatchOption}
 use Rattle.std.specs.Str.{bytes_eq}
 use Rattle.std.proofs.lemmas.Bool.{eqb-true}
@@ -8,12 +8,15 @@ use Rattle.std.proofs.lemmas.Bool.Decides.{nat_tests}
 use Rattle.venue_model.specs.declared.orders.Order.{Order}
 use Rattle.venue_model.specs.declared.outputs.Cause.{Cause}
 use Rattle.venue_model.specs.declared.commands.OrderCancelReplaceRequest.{OrderCancelReplaceRequest}
+use Rattle.venue_model.specs.declared.commands.TimeInForce.TheVariants.{Day}
 use Rattle.venue_model.specs.Orders.{leaves, is_live, same_side}
 use Rattle.venue_model.specs.Match.{live_alone}
 use Rattle.venue_model.specs.Requests.{Symbols, is_named, is_day, replace_fits, amended, restamped, keeps_place}
+use Rattle.venue_model.specs.Requests.{most_resting}
 use Rattle.price_levels.specs.Places.{CanAmend}
 use Rattle.book.specs.Standing.{InRange, Rests, Below}
 use Rattle.book.specs.Books.{Book, NamedApart, Belongs, IsBook, NoneNamed, StandsInBook, StaysInPlace}
+use Rattle.book.specs.Commands.{MayComeIn, CanReplace, IsNewName}
 use Rattle.book.proofs.Lists.{each-back}
 use Rattle.book.proofs.Fills.{live-true}
 use Rattle.book.proofs.NameLemmas.{IsAmong, found, amended-are, amended-kept}
@@ -32,13 +35,13 @@ more : (quantity cum : ℕ) → not (nat_le quantity cum) ≡ true → cum < qua
 more quantity cum h = grind (arith, nat_tests)
 
 -- a request that fits asks for more than was filled
-pub fits-more : (r : OrderCancelReplaceRequest) (o : Order) → replace_fits r o ≡ true → o.cum < r.quantity
+fits-more : (r : OrderCancelReplaceRequest) (o : Order) → replace_fits r o ≡ true → o.cum < r.quantity
 fits-more r o fit = more r.quantity o.cum
     (and_last (bytes_eq r.symbol o.symbol && same_side r.side o.side && is_day r.time_in_force)
     (not (nat_le r.quantity o.cum)) fit)
 
 -- the amended order is in range, wherever it stands in time
-pub amended-range : (r : OrderCancelReplaceRequest) (o : Order) → InRange o → o.cum < r.quantity → r.quantity ≤ 1000000
+amended-range : (r : OrderCancelReplaceRequest) (o : Order) → InRange o → o.cum < r.quantity → r.quantity ≤ 1000000
     → r.price ≤ 1000000 → InRange (amended r o)
 amended-range r o range asks quantity price = record {
   cum = omega (arith, asks);
@@ -47,12 +50,36 @@ amended-range r o range asks quantity price = record {
   notional = range.notional;
 }
 
-pub restamped-range : (c : Cause) (o : Order) → InRange o → InRange (restamped c o)
+restamped-range : (c : Cause) (o : Order) → InRange o → InRange (restamped c o)
 restamped-range c o range = record {
   cum = range.cum;
   total = range.total;
   price = range.price;
   notional = range.notional;
+}
+
+-- it may come in again, where the others came before it and leave it a place
+pub comes-again : {client : ℕ} {book : Book} {r : OrderCancelReplaceRequest} {o : Order} {orders : List Order}
+    (c : Cause) → CanReplace book client r o → Below c.sequence orders → length orders < most_resting
+    → MayComeIn Day (restamped c (amended r o)) orders
+comes-again {r = r} {o} c its behind few =
+    let more = fits-more r o its.fits in
+    record {
+      in_range = restamped-range c (amended r o)
+          (amended-range r o its.stands.rests.in_range more its.quantity its.price);
+      some = omega (arith, more);
+      behind = behind;
+      place = λ day. few;
+      limit = λ day. its.stands.rests.limit;
+    }
+
+-- and its client may take the new name, whatever orders are left
+pub named-again : {client : ℕ} {book : Book} {r : OrderCancelReplaceRequest} {o : Order} → CanReplace book client r o
+    → (orders : List Order) → IsNewName (record book.state { orders = orders }) o.client r.cl_ord_id
+named-again its orders = record {
+  from = its.stands.belongs.from;
+  to = its.stands.belongs.to;
+  later = rw its.stands.its_client its.name.later;
 }
 
 apart-instead : (o o' : Order) (xs ys : List Order) → NoneNamed o'.client o'.cl_ord_id (xs ++ o ∷ ys)

@@ -1,6 +1,6 @@
 -- The first order that an incoming one crosses is the best of its level; a fill of it.
-use Rattle.std.proofs.Common.{◌≡◌, ◌+◌, ◌-◌, ◌<◌, ◌≤◌, ℕ, true, false, ◌&&◌, ◌||◌, nat_eq, nat_lt, List, [], ◌∷◌, ◌++◌}
-use Rattle.std.proofs.Common.{length, refl, ap, sym, subst, ◌∙◌, inl, inr, Some, None, arith, length-set}
+use Rattle.std.proofs.Common.{◌≡◌, ◌+◌, ◌-◌, ◌<◌, ◌≤◌, ℕ, Bool, true, false, ◌&&◌, ◌||◌, nat_eq, nat_lt, List, []}
+use Rattle.std.proofs.Common.{◌∷◌, ◌++◌, length, refl, ap, sym, subst, ◌∙◌, inl, inr, Some, None, arith, length-set}
 use Rattle.std.specs.Prelude.{◌≢◌, slice_set, option_map, MatchOption, if◌then◌else◌}
 use Rattle.std.specs.Str.{bytes_eq}
 use Rattle.std.proofs.lemmas.Slice.Eq.{bytes_eq-Decides}
@@ -169,7 +169,7 @@ module _ {places : Places} {entries : List IndexEntry} {count : ℕ} {view : Lis
       ∙ ap (λ n. meets i.side i.price side n) (ap (λ (z : Order). z.price) (sym it-is) ∙ price_is)
 
   -- the best one isn't crossed: none is
-  pub fills-not : crosses i o ≡ false → FillsNone i view view
+  fills-not : crosses i o ≡ false → FillsNone i view view
   fills-not isnt = none-crossed places view i it.shown.list (λ q x there h. elim (same-or-not q p) [
     | inl same ↦
         let one : x ≡ o = some-same (sym there ∙ (ap (at places) same ∙ it.stands)) in
@@ -180,27 +180,35 @@ module _ {places : Places} {entries : List IndexEntry} {count : ℕ} {view : Lis
         cc
   ])
 
+-- and it is crossed
+pub record Crossed (places : Places) (entries : List IndexEntry) (count : ℕ) (view : List Order) (i : Order) (p : ℕ)
+    (o : Order) : Type 0 where
+  pub best : Best places entries count view i p o
+  pub crossed : crosses i o ≡ true
+
+module _ {places : Places} {entries : List IndexEntry} {count : ℕ} {view : List Order} {i : Order} {p : ℕ} {o : Order}
+    (it : Crossed places entries count view i p o) where
   seat : SeatedByStamp places p o
-  seat = seated places p o (is-within places p o it.stands) it.stands
+  seat = seated places p o (is-within places p o it.best.stands) it.best.stands
 
-  first : crosses i o ≡ true → First i o seat.before seat.behind
-  first crossed =
+  first : First i o seat.before seat.behind
+  first =
       let both = others (λ x. crosses i x ≡ true → Leads o x) places p o seat
-      (λ q x other there h. leads q x other there h) in
-      record { is_crossed = crossed; leads_before = both.0; leads_behind = both.1 }
+      (λ q x other there h. leads it.best q x other there h) in
+      record { is_crossed = it.crossed; leads_before = both.0; leads_behind = both.1 }
 
-  pub can-reduce : (q : ℕ) → q < leaves o → HoldsAt places p (LeavesSome q)
-  can-reduce q less = subst (λ v. MatchOption v ⊥ (LeavesSome q)) (sym it.stands)
-      (fill-fits o q (it.shown.kept.each p o it.stands) less)
+  pub can-reduce : {q : ℕ} → q < leaves o → HoldsAt places p (LeavesSome q)
+  can-reduce {q} less = subst (λ v. MatchOption v ⊥ (LeavesSome q)) (sym it.best.stands)
+      (fill-fits o q (it.best.shown.kept.each p o it.best.stands) less)
 
   reduced-is : (q : ℕ) → changed (reduced q) places p ≡ slice_set places p (Some (filled o q o.price))
-  reduced-is q = ap (λ v. slice_set places p (option_map (reduced q) v)) it.stands
+  reduced-is q = ap (λ v. slice_set places p (option_map (reduced q) v)) it.best.stands
 
-  pub kept-reduced : (q : ℕ) → q < leaves o → (after : Places) → after ≡ changed (reduced q) places p
+  pub kept-reduced : {q : ℕ} {after : Places} → q < leaves o → after ≡ changed (reduced q) places p
       → AreKept after entries count
-  kept-reduced q less after after_is = subst (λ ps. AreKept ps entries count) (sym (after_is ∙ reduced-is q))
-      (kept-change places entries count it.shown.kept p o (filled o q o.price) it.stands refl refl
-      (fill-rests o q (it.shown.kept.each p o it.stands) less))
+  kept-reduced {q} less after_is = subst (λ ps. AreKept ps entries count) (sym (after_is ∙ reduced-is q))
+      (kept-change places entries count it.best.shown.kept p o (filled o q o.price) it.best.stands refl refl
+      (fill-rests o q (it.best.shown.kept.each p o it.best.stands) less))
 
   live : (y : Order) → 0 < leaves y → is_live y ≡ true
   live y some = grind (arith, nat_tests)
@@ -208,47 +216,46 @@ module _ {places : Places} {entries : List IndexEntry} {count : ℕ} {view : Lis
   gone : (y : Order) → leaves y ≡ 0 → is_live y ≡ false
   gone y none = grind (arith, nat_tests)
 
-  pub fills-part : crosses i o ≡ true → (q : ℕ) → q ≡ leaves i → q < leaves o → (after : Places)
-      → after ≡ changed (reduced q) places p
+  pub fills-part : {q : ℕ} {after : Places} → q ≡ leaves i → q < leaves o → after ≡ changed (reduced q) places p
       → FillsFirst i view (by_stamp after) o
-  fills-part crossed q q_is less after after_is =
+  fills-part {q} q_is less after_is =
       let y = filled o q o.price in
       let quantity : q ≡ traded i o = omega (arith, q_is, less) in
       let left : is_live y ≡ true = live y (omega (arith, less)) in
       record {
         before = seat.before;
         behind = seat.behind;
-        split = sym it.shown.list ∙ seat.split;
-        first = first crossed;
+        split = sym it.best.shown.list ∙ seat.split;
+        first = first;
         after =
             ap by_stamp (after_is ∙ reduced-is q) ∙ seat.changed y refl
             ∙ ap (λ b. seat.before ++ ((if b then y ∷ [] else []) ++ seat.behind)) (sym left)
             ∙ ap (λ k. seat.before ++ (live_alone (filled o k o.price) ++ seat.behind)) quantity;
       }
 
-  pub fills-whole : crosses i o ≡ true → leaves o ≤ leaves i → (after : Places) → after ≡ slice_set places p None
+  pub fills-whole : {after : Places} → leaves o ≤ leaves i → after ≡ slice_set places p None
       → FillsFirst i view (by_stamp after) o
-  fills-whole crossed more after after_is =
+  fills-whole more after_is =
       let y = filled o (leaves o) o.price in
       let quantity : leaves o ≡ traded i o = omega (arith, more) in
       let none : is_live y ≡ false = gone y (omega arith) in
       record {
         before = seat.before;
         behind = seat.behind;
-        split = sym it.shown.list ∙ seat.split;
-        first = first crossed;
+        split = sym it.best.shown.list ∙ seat.split;
+        first = first;
         after =
             ap by_stamp after_is ∙ seat.without
             ∙ ap (λ b. seat.before ++ ((if b then y ∷ [] else []) ++ seat.behind)) (sym none)
             ∙ ap (λ k. seat.before ++ (live_alone (filled o k o.price) ++ seat.behind)) quantity;
       }
 
-  pub kept-whole : (after : Places) → after ≡ slice_set places p None → (new : List IndexEntry)
+  pub kept-whole : {after : Places} {new : List IndexEntry} → after ≡ slice_set places p None
       → place_of new ≡ without_name o.client o.cl_ord_id (place_of entries)
       → length new + 1 ≡ length entries → AreKept after new (count - 1)
-  kept-whole after after_is new places_are entries_are = subst (λ ps. AreKept ps new (count - 1)) (sym after_is)
-      (kept-leave places entries new count it.shown.kept o.client o.cl_ord_id p
-      (it.shown.kept.indexed.named p o it.stands) places_are entries_are)
+  kept-whole {new = new} after_is places_are entries_are = subst (λ ps. AreKept ps new (count - 1)) (sym after_is)
+      (kept-leave places entries new count it.best.shown.kept o.client o.cl_ord_id p
+      (it.best.shown.kept.indexed.named p o it.best.stands) places_are entries_are)
 
 -- the best order of the other side, whose price is known: whether it is crossed, and an unread one that isn't
 module _ {places : Places} {entries : List IndexEntry} {count : ℕ} {view : List Order} {p price : ℕ} {side : Side}
@@ -257,12 +264,17 @@ module _ {places : Places} {entries : List IndexEntry} {count : ℕ} {view : Lis
   abbrev its : PricedBest i.symbol (opposite i.side) places p price
   its = subst (λ s. PricedBest i.symbol s places p price) side_is priced
 
-  abbrev pub best-read : (o : Order) → at places p ≡ Some o → Best places entries count view i p o
+  abbrev best-read : (o : Order) → at places p ≡ Some o → Best places entries count view i p o
   best-read o stands = record { shown = shown; best = its.best; stands = stands }
 
-  pub price-meets : (o : Order) → at places p ≡ Some o → crosses i o ≡ meets i.side i.price side price
+  price-meets : (o : Order) → at places p ≡ Some o → crosses i o ≡ meets i.side i.price side price
   price-meets o stands = crosses-priced (best-read o stands) side price side_is its.price_is
 
   pub fills-unread : meets i.side i.price side price ≡ false → FillsNone i view view
   fills-unread far = fills-not (best-read its.best.order its.best.stands)
       (price-meets its.best.order its.best.stands ∙ far)
+
+  pub crossed-read : {o : Order} {met : Bool} → at places p ≡ Some o → met ≡ meets i.side i.price side price
+      → met ≡ true → Crossed places entries count view i p o
+  crossed-read {o} stands met_is met =
+      record { best = best-read o stands; crossed = price-meets o stands ∙ sym met_is ∙ met }

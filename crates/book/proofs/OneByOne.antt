@@ -2,7 +2,8 @@
 use Rattle.std.proofs.Common.{◌≡◌, ℕ, zero, suc, ◌<◌, Option, Some, None, List, [], ◌∷◌, ◌++◌, length, take, drop}
 use Rattle.std.proofs.Common.{slice_get, take-append-drop}
 use Rattle.std.proofs.Common.{refl, ap, sym, ◌∙◌, subst, arith}
-use Rattle.std.specs.List.{flat_map}
+use Rattle.std.specs.Prelude.{IsSome}
+use Rattle.std.specs.List.{AllByRecursion, flat_map}
 use Rattle.std.proofs.lemmas.Grind.{flat_map-append}
 use Rattle.std.proofs.Common.{append-nil}
 
@@ -20,11 +21,32 @@ module _ {X : Type 0} where
   next_at all i None next at first then = rw at (first refl)
   next_at all i (Some x) next at first then = then at.0 (drop i all) x refl at.1
 
+  -- it stands first among those that are left, and what holds of each holds of it
+  pub next_is : (all : List X) (i : ℕ) {from next : Option X} {x : X} → IsAt all i from →
+      (from ≡ None → next ≡ slice_get all 0) →
+      ((before behind : List X) (x : X) → from ≡ Some x → all ≡ before ++ x ∷ behind → next ≡ slice_get behind 0) →
+      next ≡ Some x → Some x ≡ slice_get (drop i all) 0
+  next_is all i {from} {next} at first then is = sym is ∙ next_at all i from next at first then
+
+  pub next_has : (P : X → Type 0) (all : List X) (i : ℕ) (x : X) → Some x ≡ slice_get (drop i all) 0
+      → AllByRecursion P all → P x
+  next_has P [] zero x is each = cc
+  next_has P [] (suc i) x is each = cc
+  next_has P (y ∷ ys) zero x is each = let same : y ≡ x = cc in subst P same each.0
+  next_has P (y ∷ ys) (suc i) x is each = next_has P ys i x is each.1
+
   -- there is a next one, if not all have been seen
-  pub some_left : (all : List X) (i : ℕ) → i < length all → (x : X) × (slice_get (drop i all) 0 ≡ Some x)
+  some_left : (all : List X) (i : ℕ) → i < length all → (x : X) × (slice_get (drop i all) 0 ≡ Some x)
   some_left [] i within = absurd (omega arith)
   some_left (x ∷ xs) zero within = (x, refl)
   some_left (x ∷ xs) (suc i) within = some_left xs i (omega arith)
+
+  pub has_next : (all : List X) (i : ℕ) {from next : Option X} → IsAt all i from →
+      (from ≡ None → next ≡ slice_get all 0) →
+      ((before behind : List X) (x : X) → from ≡ Some x → all ≡ before ++ x ∷ behind → next ≡ slice_get behind 0) →
+      i < length all → IsSome next
+  has_next all i {from} {next} at first then within =
+      subst IsSome (sym (next_at all i from next at first then ∙ (some_left all i within).1)) refl
 
   -- it stands in front of those that are left, and behind those that have been seen
   first_left : (all : List X) (i : ℕ) (x : X) → Some x ≡ slice_get (drop i all) 0 → drop i all ≡ x ∷ drop (suc i) all

@@ -162,11 +162,10 @@ module _ (symbols : Symbols) (bytes : List ℕ) (s r : State) (both : SpellsBoth
   abbrev also : SnapshotOf symbols r both.its_commands both.its_told bytes
   also = both.other
 
-  heads : its_head symbols r both.its_commands both.its_told bytes also
-      ≡ its_head symbols s both.commands both.told bytes is
+  heads : its_head also ≡ its_head is
   heads =
-      let one = has-head symbols s both.commands both.told bytes is in
-      let other = has-head symbols r both.its_commands both.its_told bytes also in
+      let one = has-head is in
+      let other = has-head also in
       head-is bytes _ _ (head-small bytes _ other) (sym other.spelled) one
 
   lists : also.listed ≡ is.listed
@@ -178,8 +177,7 @@ module _ (symbols : Symbols) (bytes : List ℕ) (s r : State) (both : SpellsBoth
       (subst (λ (g : List ℕ). AllByRecursion (HasRanges symbols g both.its_commands) also.listed) names
       also.are.each) in
       same-rows symbols s.greatest both.commands both.table is.counts.counted also.listed is.listed ranged is.are.each
-      (sym (its-rows symbols r both.its_commands both.its_told bytes also)
-      ∙ its-rows symbols s both.commands both.told bytes is)
+      (sym (its-rows also) ∙ its-rows is)
 
   pub one-count : both.its_commands ≡ both.commands
   one-count = ap (λ (h : Head). h.commands) heads

@@ -1,7 +1,7 @@
 -- A match that is over: nothing is left of the incoming order, or it crosses none.
 use Rattle.std.proofs.Common.{◌≡◌, inl, inr, ℕ, ◌+◌, ◌*◌, ◌<◌, true, false, nat_lt, List, [], ◌∷◌, ◌++◌, length, refl}
 use Rattle.std.proofs.Common.{ap, sym, ◌∙◌, arith, append-nil}
-use Rattle.std.specs.Prelude.{sum_by, filter, if◌then◌else◌}
+use Rattle.std.specs.Prelude.{sum_by, filter, if◌then◌else◌, Vec}
 use Rattle.std.specs.List.{AllByRecursion, flat_map}
 use Rattle.venue_model.specs.declared.orders.Order.{Order}
 use Rattle.venue_model.specs.declared.outputs.Cause.{Cause}
@@ -10,9 +10,10 @@ use Rattle.venue_model.specs.Orders.{leaves, is_live, crosses}
 use Rattle.venue_model.specs.Match.{crossing, fill, after_fill, after_fills, settled, done, rest, by_priority}
 use Rattle.venue_model.specs.Match.{filled_orders, trade, trades, live_alone, matched, match_outputs}
 use Rattle.venue_model.specs.declared.commands.TimeInForce.TheVariants.{Day}
-use Rattle.book.specs.Standing.{Rests, IsBookList}
+use Rattle.book.specs.Standing.{Rests}
+use Rattle.book.specs.Commands.{AreLeft, AddsOutputs, MatchReads}
 use Rattle.book.specs.Passes.{Matching, Passed, Over, NoneCrossed}
-use Rattle.book.specs.Reads.{fills, filled_by, IsMatched}
+use Rattle.book.specs.Reads.{fills}
 use Rattle.book.proofs.Lists.{same-self, same_map, same_sum, filter-all, filter-none, each-of, each-map}
 use Rattle.book.proofs.Fills.{live-true}
 use Rattle.book.proofs.Passes.{filled-none, sum-zeros, product, counted, counted-none}
@@ -74,14 +75,19 @@ module _ (i : Order) (orders : List Order) where
 -- the match is over, behind what has passed of it
 pub record Ended (c : Cause) (first : Matching) (incoming : Order) (orders : List Order) (told : List Output)
     : Type 0 where
-  pub orders_are : orders ≡ rest first.incoming first.orders
+  pub left : AreLeft (rest first.incoming first.orders) first.orders orders
   pub done_is : incoming ≡ done first.incoming first.orders
   pub told_is : told ≡ first.told ++ trades c first.incoming first.orders
 
 pub ended : {c : Cause} {first last : Matching} → Passed c first last → Over last.incoming last.orders
-    → IsBookList last.orders → Ended c first last.incoming last.orders last.told
-ended {c} {first} {last} passed over standing = record {
-  orders_are = sym (passed.left ∙ rest-over last.incoming last.orders over standing.each);
+    → AreLeft last.orders first.orders last.orders → Ended c first last.incoming last.orders last.told
+ended {c} {first} {last} passed over left = record {
+  left = record {
+    orders = sym (passed.left ∙ rest-over last.incoming last.orders over left.standing.each);
+    standing = left.standing;
+    below = left.below;
+    no_longer = left.no_longer;
+  };
   done_is = sym (passed.filled ∙ done-over last.incoming last.orders over);
   told_is = sym (passed.said ∙ ap (λ ts. last.told ++ ts) (told-over last.incoming last.orders c over)
       ∙ append-nil last.told);
@@ -95,10 +101,16 @@ module _ (i : Order) (orders : List Order) (none : NoneCrossed i orders) where
       ∙ ap (λ o. orders ++ live_alone o) (done-over i orders (inr none))
       ∙ ap (λ b. orders ++ (if b then i ∷ [] else [])) (live-true i some)
 
-  pub told-nothing : (c : Cause) (told : List Output) → told ≡ told ++ match_outputs c Day i orders
-  told-nothing c told = sym (ap (λ ts. told ++ ts) (told-over i orders c (inr none)) ∙ append-nil told)
+  pub told-nothing : {Z : Type 0} (c : Cause) (out : Vec Output Z) → AddsOutputs (match_outputs c Day i orders) out out
+  told-nothing c out = record {
+    items = sym (ap (λ ts. out.items ++ ts) (told-over i orders c (inr none)) ∙ append-nil out.items);
+    room = refl;
+  }
 
-  pub read-nothing : (reads : ℕ) → IsMatched (filled_by Day i orders) reads reads
+  pub read-nothing : (reads : ℕ) → MatchReads Day i orders reads reads
   read-nothing reads =
       let none_filled = fills-over i orders (inr none) in
-      record { least = omega (arith, none_filled); most = omega (arith, none_filled) }
+      record {
+        matched = record { least = omega (arith, none_filled); most = omega (arith, none_filled) };
+        killed = λ is unfilled. refl;
+      }

@@ -43,9 +43,9 @@ module _ {first now : Slots} {start gap step : ℕ} (closes : Closes first now s
       (omega (arith, slot-within start closes.has_gap.closing.behind, closes.has_gap.size))
 
   -- a read of the next slot
-  pub seen : (slot : ℕ) → slot ≡ slot_from start step → (read : Option IndexEntry) → read ≡ get_or now slot read
+  pub seen : {slot : ℕ} {read : Option IndexEntry} → slot ≡ slot_from start step → read ≡ get_or now slot read
       → at now (slot_from start step) ≡ read
-  seen slot is read reads =
+  seen {slot} {read} is reads =
       let within : slot < length now = omega (arith, is, slot-within start step, closes.has_gap.size) in
       ap (at now) (sym is) ∙ sym (get_or_read now slot read within reads None)
 
@@ -115,6 +115,19 @@ pub record Next (now : Slots) (start gap step slot : ℕ) (e : IndexEntry) (from
   pub stands : at now (slot_from start step) ≡ Some e
   pub home_steps : from_home ≡ steps_to (home_of e) slot
   pub gap_steps : from_gap ≡ steps_to gap slot
+
+-- as it has been read
+pub next-read : {first now : Slots} {start gap step slot : ℕ} {read : Option IndexEntry} {e : IndexEntry}
+    {home from_home from_gap : ℕ} → Closes first now start gap step → step < 8192 → slot ≡ slot_from start step
+    → read ≡ get_or now slot read → read ≡ Some e → home ≡ home_of e → from_home ≡ steps_to home slot
+    → from_gap ≡ steps_to gap slot → Next now start gap step slot e from_home from_gap
+next-read {slot = slot} closes few is reads there home_is home_steps gap_steps = record {
+  few = few;
+  is = is;
+  stands = seen closes is reads ∙ there;
+  home_steps = home_steps ∙ ap (λ h. steps_to h slot) home_is;
+  gap_steps = gap_steps;
+}
 
 module _ {first now : Slots} {start gap step slot : ℕ} {e : IndexEntry} {from_home from_gap : ℕ}
     (closes : Closes first now start gap step) (next : Next now start gap step slot e from_home from_gap)

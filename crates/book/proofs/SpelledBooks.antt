@@ -42,21 +42,8 @@ length-rows symbols (o ∷ os) =
     omega (arith, both, row, more)
 
 -- what stands behind a place is all that is left from there
-behind_it : (n : ℕ) (xs : List ℕ) → take (length xs - n) (drop n xs) ≡ drop n xs
+pub behind_it : (n : ℕ) (xs : List ℕ) → take (length xs - n) (drop n xs) ≡ drop n xs
 behind_it n xs = take_all (length xs - n) (drop n xs) (omega (arith, length-drop n xs))
-
--- the rows behind the head, and the table of a logic
-module _ (given symbols : Symbols) (greatest : List ℕ) (commands : ℕ) (bytes : List ℕ) (table : given ≡ symbols) where
-  pub rows-restore : (orders : List Order)
-      → Restores given greatest commands (take (length bytes - 82) (drop 82 bytes)) orders
-      → Restores symbols greatest commands (drop 82 bytes) orders
-  rows-restore orders restores = subst (λ (ss : Symbols). Restores ss greatest commands (drop 82 bytes) orders) table
-      (subst (λ (rows : List ℕ). Restores given greatest commands rows orders) (behind_it 82 bytes) restores)
-
-  pub rows-spell_none : SpellsNone given greatest commands (take (length bytes - 82) (drop 82 bytes))
-      → SpellsNone symbols greatest commands (drop 82 bytes)
-  rows-spell_none none = subst (λ (ss : Symbols). SpellsNone ss greatest commands (drop 82 bytes)) table
-      (subst (λ (rows : List ℕ). SpellsNone given greatest commands rows) (behind_it 82 bytes) none)
 
 -- HEADS
 
@@ -77,7 +64,7 @@ head-small bytes h has =
 pub head-is : (bytes : List ℕ) (h k : Head) → FitsBytes h → bytes_of_head h ≡ take 82 bytes → SpellsHead bytes k → h ≡ k
 head-is bytes h k small spelled has = same-head h k small (head-small bytes k has) (spelled ∙ has.spelled)
 
-module _ (symbols : Symbols) (s : State) (commands told : ℕ) (bytes : List ℕ)
+module _ {symbols : Symbols} {s : State} {commands told : ℕ} {bytes : List ℕ}
     (is : SnapshotOf symbols s commands told bytes) where
   abbrev pub its_head : Head
   its_head = record { commands = commands; outputs = told; greatest = s.greatest; resting = length is.listed }
@@ -109,7 +96,7 @@ module _ (symbols : Symbols) (s : State) (commands told : ℕ) (bytes : List ℕ
 
 -- BOOKS
 
-module _ (symbols : Symbols) (bytes : List ℕ) (h : Head) (has : SpellsHead bytes h) (orders : List Order)
+module _ {symbols : Symbols} {bytes : List ℕ} {h : Head} {orders : List Order} (has : SpellsHead bytes h)
     (restores : Restores symbols h.greatest h.commands (drop 82 bytes) orders) where
   as-many : length restores.listed ≡ h.resting
   as-many =

@@ -6,11 +6,12 @@ use Rattle.std.specs.Prelude.{if◌then◌else◌, filter}
 use Rattle.std.specs.List.{AllByRecursion}
 use Rattle.std.proofs.lemmas.Bool.Decides.{nat_tests}
 use Rattle.venue_model.specs.declared.orders.Order.{Order}
-use Rattle.venue_model.specs.Orders.{leaves, is_live}
+use Rattle.venue_model.specs.declared.commands.TimeInForce.TheVariants.{Day}
+use Rattle.venue_model.specs.Orders.{is_live}
 use Rattle.venue_model.specs.Match.{live_alone}
-use Rattle.venue_model.specs.Requests.{most_resting}
 use Rattle.price_levels.specs.Places.{InOneLevel}
 use Rattle.book.specs.Standing.{InRange, Rests, Below, IsEarlier, InTime, IsBookList}
+use Rattle.book.specs.Commands.{MayComeIn}
 use Rattle.book.proofs.Lists.{each-append, each-map, each-filter}
 use Rattle.book.proofs.LawPairs.{pairs-filter, pairs-push}
 
@@ -82,23 +83,22 @@ module _ (o o' : Order) where
   below-instead xs ys sequence stamp below = each-instead (λ y. y.stamp < sequence) xs ys
       (λ live h. subst (λ s. s < sequence) (sym stamp) h) below
 
--- one more at the end, with a later stamp
-pub standing-push : (xs : List Order) (o : Order) → Rests o → Below o.stamp xs → length xs < most_resting
-    → IsBookList xs → IsBookList (xs ++ o ∷ [])
-standing-push xs o rests behind few standing = record {
-  in_time = pairs-push IsEarlier xs o standing.in_time
-      (each-map (λ x. x.stamp < o.stamp) (λ x. IsEarlier x o) (λ x earlier one_level. earlier) xs behind);
-  each = each-append Rests xs (o ∷ []) standing.each (rests, tt);
-  few = let more = length-append xs (o ∷ []) in omega (arith, more, few);
-}
+-- one more at the end, that may rest
+pub standing-push : (xs : List Order) (o : Order) → MayComeIn Day o xs → IsBookList xs → IsBookList (xs ++ o ∷ [])
+standing-push xs o its standing =
+    let some = its.some in
+    let few = its.place refl in
+    let rests : Rests o = record { live = omega (arith, some); limit = its.limit refl; in_range = its.in_range } in
+    record {
+      in_time = pairs-push IsEarlier xs o standing.in_time
+          (each-map (λ x. x.stamp < o.stamp) (λ x. IsEarlier x o) (λ x earlier one_level. earlier) xs its.behind);
+      each = each-append Rests xs (o ∷ []) standing.each (rests, tt);
+      few = let more = length-append xs (o ∷ []) in omega (arith, more, few);
+    }
 
 pub below-push : (xs : List Order) (o : Order) (sequence : ℕ) → o.stamp < sequence → Below sequence xs
     → Below sequence (xs ++ o ∷ [])
 below-push xs o sequence h below = each-append (λ x. x.stamp < sequence) xs (o ∷ []) below (h, tt)
-
--- the incoming order is in range: it rests where something is left of it
-pub rests-left : (o : Order) → InRange o → o.is_market ≡ false → (leaves o ≡ 0 → ⊥) → Rests o
-rests-left o in_range limit some = record { live = omega (arith, some); limit = limit; in_range = in_range }
 
 -- some of the list
 pub length-filter-le : (p : Order → Bool) (xs : List Order) → length (filter p xs) ≤ length xs

@@ -9,6 +9,7 @@ pub mod Passes
 pub mod Reads
 pub mod Tables
 pub mod Books
+pub mod Commands
 pub mod Laws
 pub mod Listing
 pub mod Depths

@@ -7,6 +7,7 @@ ghost use Rattle.venue_model.specs.Requests.{named};
 ghost use Rattle.venue_model.specs.Step.{empty, cause, step, IsCommand};
 ghost use Rattle.venue_model.specs.declared.orders.Order.{Order};
 ghost use Rattle.book.specs.Books.{FollowsRequest, IsBook};
+ghost use Rattle.book.specs.Commands.{ComesNext, ComesTo, AddsOutputs};
 ghost use Rattle.book.specs.Depths.{depth_at};
 ghost use Rattle.book.specs.Listing.{listing};
 ghost use Rattle.book.specs.Reads.{ReadsFew};
@@ -89,7 +90,7 @@ impl Book {
     }
 
     /// How many orders rest.
-    pub fn resting(&self) -> usize
+    pub fn resting(&self) -> usize // promise 3
         ensures value { result ≡ length self.now.state.orders }
         ensures most { result ≤ 4096 }
     {
@@ -98,7 +99,7 @@ impl Book {
 
     /// How many resting orders the last command read, of those that it matched or named. Prices and sums that the
     /// levels keep aren't counted.
-    pub fn reads(&self) -> u64
+    pub fn reads(&self) -> u64 // promise 3
         ensures { result ≡ self.now.reads }
     {
         self.reads
@@ -112,7 +113,7 @@ impl Book {
         gateway: u8,
         command: &Command,
         out: &mut Vec<Output>,
-    ) -> Result<(), AllocError>
+    ) -> Result<(), AllocError> // promise 3
         requires sequence { sequence < 2 ^ 48 }
         requires behind { Below sequence self.old.state.orders }
         requires gateway { (1 ≤ gateway) × (gateway ≤ 8) }
@@ -133,7 +134,7 @@ impl Book {
     /// next. An order is known by its client and ClOrdID; behind one that doesn't rest comes `None`. It takes no
     /// memory. A call looks the order's name up and, behind the last order of a price, searches the price levels once
     /// for that order and once for each later symbol and side (at most 16 in all), until an order is there.
-    pub fn after(&self, from: Option<Order>) -> Option<Order>
+    pub fn after(&self, from: Option<Order>) -> Option<Order> // promise 3
         ensures first { from ≡ None → result ≡ slice_get (listing self.now.limits.symbols self.now.state.orders) 0 }
         ensures next { (before behind : List Order) (o : Order) → from ≡ Some o →
             listing self.now.limits.symbols self.now.state.orders ≡ before ++ o ∷ behind
@@ -168,20 +169,16 @@ impl Book {
         out: &mut Vec<Output>,
         reads: &mut Reads,
     )
-        requires sequence { sequence < 2 ^ 48 }
-        requires behind { Below sequence self.old.state.orders }
-        requires from { 1 ≤ gateway }
-        requires to { gateway ≤ 8 }
+        requires next { ComesNext gateway sequence self.old.state.orders }
         requires command { IsCommand command.now }
         requires empty { out.old.items ≡ [] }
         requires room { 8194 ≤ vec_capacity out.old }
         requires reads { reads.old ≡ 0 }
-        ensures limits { self.new.limits ≡ self.old.limits }
-        ensures state { self.new.state ≡ (step self.old.limits.symbols self.old.state sequence (record { gateway = gateway; command = command.now })).state }
-        ensures below { Below (sequence + 1) self.new.state.orders }
-        ensures told { out.new.items ≡ (step self.old.limits.symbols self.old.state sequence (record { gateway = gateway; command = command.now })).outputs }
+        ensures state { ComesTo (step self.old.limits.symbols self.old.state sequence (record { gateway = gateway; command = command.now })).state
+            (sequence + 1) self.old self.new }
+        ensures told { AddsOutputs (step self.old.limits.symbols self.old.state sequence (record { gateway = gateway; command = command.now })).outputs
+            out.old out.new }
         ensures reads { ReadsFew self.old.limits.symbols self.old.state sequence (record { gateway = gateway; command = command.now }) reads.new }
-        ensures room { vec_capacity out.new ≡ vec_capacity out.old }
     {
         match command {
             Command::New {

@@ -26,7 +26,7 @@ ghost use Rattle.book.specs.Laws.{AnswersFirst, AreCrossed, GoesFirst, IsAheadOf
 
 /// What was told stays told: a history's outputs begin with the outputs of each of its beginnings, and each command
 /// adds its own behind them. Its step begins at the state that those before it have left.
-pub fn outputs_only_grow()
+pub fn outputs_only_grow() // promise 3
     ensures begin { (symbols : Symbols) (rs more : List Request) →
         outputs symbols (rs ++ more) ≡ outputs symbols rs ++ outputs_from symbols (length rs) (state symbols rs) more }
     ensures one_more { (symbols : Symbols) (rs : List Request) (r : Request) →
@@ -37,14 +37,14 @@ pub fn outputs_only_grow()
 
 /// Whatever is asked is answered, and first to who has asked: the first output of a command goes to the gateway that it
 /// came through. Only a message that asks for nothing has none.
-pub fn each_command_is_answered_first()
+pub fn each_command_is_answered_first() // promise 3
     ensures { (symbols : Symbols) (s : State) (sequence : ℕ) (r : Request) → r.command ≢ Void
         → AnswersFirst r.gateway (step symbols s sequence r).outputs }
 {}
 
 /// After any history at most 4,096 orders rest, and a command has at most 8,194 outputs: that it was accepted, two for
 /// a fill with each order that rests, and that what is left was canceled.
-pub fn the_book_is_bounded()
+pub fn the_book_is_bounded() // promise 3
     ensures resting { (symbols : Symbols) (rs : List Request) → length (state symbols rs).orders ≤ 4096 }
     ensures outputs { (symbols : Symbols) (rs : List Request) (r : Request) →
         length (step symbols (state symbols rs) (length rs) r).outputs ≤ 8194 }
@@ -53,7 +53,7 @@ pub fn the_book_is_bounded()
 /// No trade is worse than a limit: every fill that the venue ever tells of an order is at the order's limit price or a
 /// better one, for the buyer and for the seller. Each trade of a match is one of the incoming order with a resting one
 /// that it crosses, at the resting one's price, and is told of these two alone.
-pub fn trades_keep_limits()
+pub fn trades_keep_limits() // promise 3
     ensures limit { (symbols : Symbols) (rs : List Request) → AllByRecursion KeepsLimit (outputs symbols rs) }
     ensures price { (c : Cause) (incoming : Order) (orders : List Order) →
         AllByRecursion (KeepsPrice incoming orders) (trades c incoming orders) }
@@ -61,7 +61,7 @@ pub fn trades_keep_limits()
 
 /// Price-time priority: an order gets something from a match only where every resting order ahead of it got all that
 /// it had left to fill. So while something is left of an order, no order behind it of its symbol and side is filled.
-pub fn priority_holds()
+pub fn priority_holds() // promise 3
     ensures first { (incoming : Order) (orders : List Order) (o x : Order) → AreCrossed incoming orders o x →
         (quantity : ℕ) → GoesFirst quantity (crossing incoming orders) o x }
     ensures behind { (incoming : Order) (orders : List Order) (o x : Order) → IsAheadOf orders o x →
@@ -70,7 +70,7 @@ pub fn priority_holds()
 
 /// The fills of a match are told in the order of priority, each ahead of all that follow, and they are all that there
 /// are, each once.
-pub fn fills_come_in_order()
+pub fn fills_come_in_order() // promise 3
     ensures order { (incoming : Order) (orders : List Order) (quantity : ℕ) → Rising orders
         → Pairwise (λ a b. ahead a b ≡ true) (filled_orders quantity (crossing incoming orders)) }
     ensures all { (quantity : ℕ) (queue : List Order) →
@@ -80,7 +80,7 @@ pub fn fills_come_in_order()
 /// Nothing is made and nothing is lost in a match. What the incoming order gains, the resting orders gain in sum: in
 /// quantity and in money. It is as much as both sides have, and no order is filled over its total, those included that
 /// are filled whole and leave the book.
-pub fn both_sides_trade_the_same()
+pub fn both_sides_trade_the_same() // promise 3
     ensures quantity { (incoming : Order) (orders : List Order) →
         sum_by (λ o. o.cum) (map (settled incoming (crossing incoming orders)) orders) + incoming.cum
         ≡ sum_by (λ o. o.cum) orders + (done incoming orders).cum }
@@ -102,7 +102,7 @@ pub fn both_sides_trade_the_same()
 
 /// Of each symbol as much was bought as was sold, and as much was paid as was received, in the fills that the venue has
 /// told after any history.
-pub fn what_is_bought_is_sold()
+pub fn what_is_bought_is_sold() // promise 3
     ensures quantity { (symbols : Symbols) (rs : List Request) (symbol : List ℕ) →
         quantity_traded Buy symbol (outputs symbols rs) ≡ quantity_traded Sell symbol (outputs symbols rs) }
     ensures money { (symbols : Symbols) (rs : List Request) (symbol : List ℕ) →
@@ -110,7 +110,7 @@ pub fn what_is_bought_is_sold()
 {}
 
 /// A fill-or-kill order is filled whole, or it is canceled and the book is as it was.
-pub fn fill_or_kill_is_whole()
+pub fn fill_or_kill_is_whole() // promise 3
     ensures whole { (incoming : Order) (orders : List Order) → Rising orders →
         can_fill incoming orders ≡ true → leaves (done incoming orders) ≡ 0 }
     ensures untouched { (incoming : Order) (orders : List Order) →
@@ -122,7 +122,7 @@ pub fn fill_or_kill_is_whole()
 /// The book is never crossed: after any commands of the eight gateways, so after any history of their messages, no
 /// resting buy meets a resting sell of its symbol. The resting orders stand in the order of their stamps, each with
 /// something left, and no client has two under one name; each command keeps all this.
-pub fn the_book_is_never_crossed()
+pub fn the_book_is_never_crossed() // promise 3
     ensures uncrossed { (symbols : Symbols) (rs : List Request) → AllByRecursion IsFromGateway rs
         → IsUncrossed (state symbols rs).orders }
     ensures history { (limits : Limits) (h : History) → AllByRecursion IsMessage h
@@ -136,7 +136,7 @@ pub fn the_book_is_never_crossed()
 {}
 
 /// No order is ever overfilled: whatever the venue tells of an order, its CumQty is at most its OrderQty.
-pub fn no_order_is_overfilled()
+pub fn no_order_is_overfilled() // promise 3
     ensures { (symbols : Symbols) (rs : List Request) → AllByRecursion IsFromGateway rs
         → AllByRecursion KeepsTotal (outputs symbols rs) }
 {}
@@ -144,7 +144,7 @@ pub fn no_order_is_overfilled()
 /// A market order takes what there is: it crosses each order that rests just where their symbols are one and their
 /// sides are two, whatever the price. It never comes in to rest; all that rest after any history have a price. And a
 /// full book doesn't refuse it.
-pub fn market_orders_take_what_there_is()
+pub fn market_orders_take_what_there_is() // promise 3
     ensures crosses { (limits : Limits) (h : History) (c : Cause) (n : NewOrderSingle) → n.ord_type ≡ Market
         → AllByRecursion (CrossesAnyPrice (entering c n)) (state_of limits h).orders }
     ensures terms { (n : NewOrderSingle) → n.ord_type ≡ Market → is_day (terms_of n) ≡ false }
@@ -155,7 +155,7 @@ pub fn market_orders_take_what_there_is()
 
 /// The stamp of a resting order is the sequence of a command of the history: after so many commands, or after a history
 /// of so many messages, all stamps are below their number. So the next command's sequence is behind them all.
-pub fn stamps_are_sequences()
+pub fn stamps_are_sequences() // promise 3
     ensures commands { (symbols : Symbols) (rs : List Request) → Below (length rs) (state symbols rs).orders }
     ensures history { (limits : Limits) (h : History) → Below (length h) (state_of limits h).orders }
 {}
@@ -163,7 +163,7 @@ pub fn stamps_are_sequences()
 /// The state after any history of at most 2^48 messages can be a snapshot, with the counts of its commands and outputs:
 /// each number of each resting order, and each greatest ClOrdID, is one that a snapshot may have. So the snapshot of a
 /// venue's own state is never refused.
-pub fn a_state_can_be_a_snapshot()
+pub fn a_state_can_be_a_snapshot() // promises 3, 15
     ensures { (limits : Limits) (h : History) → AreSymbols limits.symbols → AllByRecursion IsMessage h
         → length h ≤ 2 ^ 48 → SpellsItsState limits h }
 {}
@@ -172,7 +172,7 @@ pub fn a_state_can_be_a_snapshot()
 /// the same, and so are their orders, which may stand in another order where some have one stamp; where stamps rise in
 /// the one and don't fall in the other, both are one. And a state has one snapshot with these counts, if stamps rise
 /// within each of its price levels: the one that the book writes.
-pub fn a_snapshot_spells_one_state()
+pub fn a_snapshot_spells_one_state() // promises 3, 15
     ensures counts { (symbols : Symbols) (bytes : List ℕ) (s r : State) → (both : SpellsBoth symbols bytes s r)
         → (both.its_commands ≡ both.commands) × (both.its_told ≡ both.told) }
     ensures orders { (symbols : Symbols) (bytes : List ℕ) (s r : State) → SpellsBoth symbols bytes s r
@@ -184,6 +184,6 @@ pub fn a_snapshot_spells_one_state()
 {}
 
 /// Each output's text is fields, whatever messages the history has: so who takes an output can write it as a frame.
-pub fn every_text_is_fields()
+pub fn every_text_is_fields() // promise 3
     ensures { (limits : Limits) (h : History) → AllByRecursion TellsFields (outputs_of limits h) }
 {}

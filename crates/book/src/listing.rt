@@ -16,7 +16,7 @@ use price_levels::ReadCounter;
 use venue_model::{Order, Side, Symbol};
 
 /// Every resting order is listed, each once.
-pub fn every_order_is_listed_once()
+pub fn every_order_is_listed_once() // promise 3
     ensures { (symbols : Symbols) (orders : List Order) (greatest : List ℕ) → AreSymbols symbols →
         IsBook symbols orders greatest → IsPermutation orders (listing symbols orders) }
 {}

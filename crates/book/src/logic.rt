@@ -40,7 +40,7 @@ impl Model for BookLogic {
 
 impl BookLogic {
     /// The logic of a venue with these limits.
-    pub fn of(limits: &Limits) -> BookLogic
+    pub fn of(limits: &Limits) -> BookLogic // promise 3
         ensures { result ≡ limits.now }
     {
         let names = limits.symbols();
@@ -62,7 +62,7 @@ impl BookLogic {
     }
 
     /// The symbols, in the order of the command line.
-    pub fn symbols(&self) -> &[Symbol]
+    pub fn symbols(&self) -> &[Symbol] // promise 3
         ensures value { result.now ≡ self.now.symbols }
         ensures table { AreSymbols self.now.symbols }
     {
@@ -71,7 +71,7 @@ impl BookLogic {
 
     /// The command of the entry at this sequence, whose message has these bytes, whatever they are. Below the cut a
     /// market order is rejected as it was before there were any.
-    pub fn read(&self, sequence: u64, bytes: &[u8]) -> Command
+    pub fn read(&self, sequence: u64, bytes: &[u8]) -> Command // promise 3
         ensures value { (gateway : ℕ) → result ≡ reads_at self.now sequence (record { gateway = gateway; bytes = bytes.now }) }
         ensures range { IsCommand result }
     {
@@ -79,7 +79,7 @@ impl BookLogic {
     }
 }
 
-impl Logic for BookLogic {
+impl Logic for BookLogic { // promise 3
     ghost use Rattle.book.specs.Histories.{reads_at, outputs_of};
     ghost use Rattle.std.proofs.Common.{refl};
     ghost use Rattle.fix_orders.specs.Text.{text_bytes};

@@ -1,14 +1,14 @@
 //! A match: an incoming order fills the orders that it crosses, each ahead of the next, and what is left of it rests or
 //! is canceled, as its terms say.
-ghost use Rattle.std.specs.Prelude.{◌≡◌, ◌<◌, ◌≤◌, ◌+◌, ◌-◌, ◌*◌, ◌^◌, ℕ, ◌++◌, length, MatchOption, None, true, false};
+ghost use Rattle.std.specs.Prelude.{◌≡◌, ◌<◌, ◌≤◌, ◌+◌, ◌-◌, ◌*◌, ◌^◌, ℕ, ◌++◌, length, MatchOption, None};
 ghost use Rattle.std.specs.Vec.{vec_len, vec_capacity};
 ghost use Rattle.venue_model.specs.declared.orders.Order.{Order};
 ghost use Rattle.venue_model.specs.Orders.{leaves};
-ghost use Rattle.venue_model.specs.Match.{done, rest, trades, can_fill, matched, match_outputs};
-ghost use Rattle.venue_model.specs.Requests.{is_day, most_resting};
+ghost use Rattle.venue_model.specs.Match.{done, rest, trades, matched, match_outputs};
 ghost use Rattle.book.specs.Firsts.{FillsFirst};
 ghost use Rattle.book.specs.Standing.{InRange, Rests, IsBookList, Below};
 ghost use Rattle.book.specs.Books.{NoneNamed};
+ghost use Rattle.book.specs.Commands.{CanMatch, MayComeIn, AreLeft, AddsOutputs, MatchReads};
 ghost use Rattle.book.specs.Passes.{incoming_after, reports, Over};
 ghost use Rattle.book.specs.Reads.{fills, filled_by, IsMatched};
 
@@ -66,19 +66,13 @@ fn sweep(
     out: &mut Vec<Output>,
     reads: &mut Reads,
 )
-    requires standing { IsBookList orders.old }
+    requires can_match { CanMatch orders.old out.old reads.old }
     requires in_range { InRange incoming.old }
-    requires room { vec_len out.old + 2 * length orders.old ≤ vec_capacity out.old }
-    requires reads { reads.old < 2 ^ 32 }
-    ensures orders { orders.new ≡ rest incoming.old orders.old }
+    ensures orders { AreLeft (rest incoming.old orders.old) orders.old orders.new }
     ensures done { incoming.new ≡ done incoming.old orders.old }
-    ensures told { out.new.items ≡ out.old.items ++ trades cause incoming.old orders.old }
+    ensures told { AddsOutputs (trades cause incoming.old orders.old) out.old out.new }
     ensures in_range { InRange incoming.new }
-    ensures standing { IsBookList orders.new }
-    ensures below { (sequence : ℕ) → Below sequence orders.old → Below sequence orders.new }
-    ensures no_longer { length orders.new ≤ length orders.old }
     ensures more { vec_len out.new ≤ vec_len out.old + 2 * length orders.old }
-    ensures room { vec_capacity out.new ≡ vec_capacity out.old }
     ensures reads { IsMatched (fills incoming.old orders.old) reads.old reads.new }
 {
     'fills: while let Some(order) = next_fill(orders, incoming, reads) {
@@ -95,20 +89,14 @@ fn trade_and_rest(
     out: &mut Vec<Output>,
     reads: &mut Reads,
 )
-    requires standing { IsBookList orders.old }
-    requires in_range { InRange incoming.now }
-    requires behind { Below incoming.now.stamp orders.old }
+    requires can_match { CanMatch orders.old out.old reads.old }
+    requires may_come_in { MayComeIn TimeInForce.Day incoming.now orders.old }
     requires fresh { NoneNamed incoming.now.client incoming.now.cl_ord_id orders.old }
-    requires place { length orders.old < most_resting }
-    requires limit { incoming.now.is_market ≡ false }
-    requires room { vec_len out.old + 2 * length orders.old ≤ vec_capacity out.old }
-    requires reads { reads.old < 2 ^ 32 }
     ensures orders { orders.new ≡ matched TimeInForce.Day incoming.now orders.old }
-    ensures told { out.new.items ≡ out.old.items ++ match_outputs cause TimeInForce.Day incoming.now orders.old }
+    ensures told { AddsOutputs (match_outputs cause TimeInForce.Day incoming.now orders.old) out.old out.new }
     ensures standing { IsBookList orders.new }
     ensures below { (sequence : ℕ) → incoming.now.stamp < sequence → Below sequence orders.old
         → Below sequence orders.new }
-    ensures room { vec_capacity out.new ≡ vec_capacity out.old }
     ensures reads { IsMatched (filled_by TimeInForce.Day incoming.now orders.old) reads.old reads.new }
 {
     let mut left = *incoming;
@@ -127,15 +115,11 @@ fn trade_and_cancel(
     out: &mut Vec<Output>,
     reads: &mut Reads,
 )
-    requires standing { IsBookList orders.old }
+    requires can_match { CanMatch orders.old out.old reads.old }
     requires in_range { InRange incoming.now }
-    requires room { vec_len out.old + 2 * length orders.old < vec_capacity out.old }
-    requires reads { reads.old < 2 ^ 32 }
-    ensures orders { orders.new ≡ matched TimeInForce.ImmediateOrCancel incoming.now orders.old }
-    ensures told { out.new.items ≡ out.old.items ++ match_outputs cause TimeInForce.ImmediateOrCancel incoming.now orders.old }
-    ensures standing { IsBookList orders.new }
-    ensures below { (sequence : ℕ) → Below sequence orders.old → Below sequence orders.new }
-    ensures room { vec_capacity out.new ≡ vec_capacity out.old }
+    ensures orders { AreLeft (matched TimeInForce.ImmediateOrCancel incoming.now orders.old) orders.old orders.new }
+    ensures told { AddsOutputs (match_outputs cause TimeInForce.ImmediateOrCancel incoming.now orders.old)
+        out.old out.new }
     ensures reads { IsMatched (filled_by TimeInForce.ImmediateOrCancel incoming.now orders.old) reads.old reads.new }
 {
     let mut left = *incoming;
@@ -154,18 +138,12 @@ fn trade_or_cancel(
     out: &mut Vec<Output>,
     reads: &mut Reads,
 )
-    requires standing { IsBookList orders.old }
+    requires can_match { CanMatch orders.old out.old reads.old }
     requires in_range { InRange incoming.now }
     requires some { 0 < leaves incoming.now }
-    requires room { vec_len out.old + 2 * length orders.old < vec_capacity out.old }
-    requires reads { reads.old < 2 ^ 32 }
-    ensures orders { orders.new ≡ matched TimeInForce.FillOrKill incoming.now orders.old }
-    ensures told { out.new.items ≡ out.old.items ++ match_outputs cause TimeInForce.FillOrKill incoming.now orders.old }
-    ensures standing { IsBookList orders.new }
-    ensures below { (sequence : ℕ) → Below sequence orders.old → Below sequence orders.new }
-    ensures room { vec_capacity out.new ≡ vec_capacity out.old }
-    ensures reads { IsMatched (filled_by TimeInForce.FillOrKill incoming.now orders.old) reads.old reads.new }
-    ensures killed { can_fill incoming.now orders.old ≡ false → reads.new ≡ reads.old }
+    ensures orders { AreLeft (matched TimeInForce.FillOrKill incoming.now orders.old) orders.old orders.new }
+    ensures told { AddsOutputs (match_outputs cause TimeInForce.FillOrKill incoming.now orders.old) out.old out.new }
+    ensures reads { MatchReads TimeInForce.FillOrKill incoming.now orders.old reads.old reads.new }
 {
     if incoming.leaves() <= orders.crossing_total(incoming) {
         let mut left = *incoming;
@@ -185,23 +163,15 @@ pub(crate) fn enter(
     out: &mut Vec<Output>,
     reads: &mut Reads,
 )
-    requires standing { IsBookList orders.old }
-    requires in_range { InRange incoming.now }
-    requires some { 0 < leaves incoming.now }
-    requires behind { Below incoming.now.stamp orders.old }
+    requires can_match { CanMatch orders.old out.old reads.old }
+    requires may_come_in { MayComeIn terms incoming.now orders.old }
     requires fresh { NoneNamed incoming.now.client incoming.now.cl_ord_id orders.old }
-    requires place { is_day terms ≡ true → length orders.old < most_resting }
-    requires limit { is_day terms ≡ true → incoming.now.is_market ≡ false }
-    requires room { vec_len out.old + 2 * length orders.old < vec_capacity out.old }
-    requires reads { reads.old < 2 ^ 32 }
     ensures orders { orders.new ≡ matched terms incoming.now orders.old }
-    ensures told { out.new.items ≡ out.old.items ++ match_outputs cause terms incoming.now orders.old }
+    ensures told { AddsOutputs (match_outputs cause terms incoming.now orders.old) out.old out.new }
     ensures standing { IsBookList orders.new }
     ensures below { (sequence : ℕ) → incoming.now.stamp < sequence → Below sequence orders.old
         → Below sequence orders.new }
-    ensures room { vec_capacity out.new ≡ vec_capacity out.old }
-    ensures reads { IsMatched (filled_by terms incoming.now orders.old) reads.old reads.new }
-    ensures killed { terms ≡ TimeInForce.FillOrKill → can_fill incoming.now orders.old ≡ false → reads.new ≡ reads.old }
+    ensures reads { MatchReads terms incoming.now orders.old reads.old reads.new }
 {
     match terms {
         TimeInForce::Day => {

@@ -1,15 +1,15 @@
 //! What each request does to the book, and what it tells: the refusals in their order, or the match.
-ghost use Rattle.std.specs.Prelude.{◌≡◌, ◌≢◌, ⊤, ℕ, ◌+◌, ◌*◌, ◌<◌, ◌≤◌, ◌^◌, true, false, ◌∷◌, ◌++◌, length, MatchOption, None, Some};
+ghost use Rattle.std.specs.Prelude.{◌≡◌, ◌≢◌, ⊤, ℕ, ◌+◌, ◌<◌, ◌≤◌, ◌^◌, true, ◌∷◌, length, MatchOption, None, Some};
 ghost use Rattle.std.specs.Vec.{vec_len, vec_capacity};
-ghost use Rattle.venue_model.specs.Requests.{new_refusal, is_day, entering, greatest_of, accepted, State, named, others, on_new, on_cancel, on_replace, cancel_reject, replace_reject, order_replaced, replace_fits, canceled, amended, restamped, keeps_place, amended_in_place, most_resting};
+ghost use Rattle.venue_model.specs.Requests.{new_refusal, entering, greatest_of, accepted, State, named, others, on_new, on_cancel, on_replace, cancel_reject, replace_reject, order_replaced, canceled, amended, restamped, keeps_place, amended_in_place, most_resting};
 ghost use Rattle.std.specs.List.{list_any};
 ghost use Rattle.std.specs.Str.{bytes_eq};
-ghost use Rattle.venue_model.specs.Orders.{leaves};
-ghost use Rattle.venue_model.specs.Match.{exec, can_fill, matched, match_outputs};
+ghost use Rattle.venue_model.specs.Match.{exec, matched, match_outputs};
 ghost use Rattle.venue_model.specs.Step.{IsAmount, IsPriced};
-ghost use Rattle.book.specs.Standing.{InRange, Below};
+ghost use Rattle.book.specs.Standing.{Below};
 ghost use Rattle.book.specs.Books.{NoneNamed, IsBook, StandsInBook, StaysInPlace, TakesOut};
-ghost use Rattle.book.specs.Reads.{fills, filled_by, named_reads, IsMatched, NewReads, ReplaceReads};
+ghost use Rattle.book.specs.Commands.{MayComeIn, ComesNext, IsNewName, CanReplace, ComesTo, AddsOutputs, MatchReads};
+ghost use Rattle.book.specs.Reads.{fills, named_reads, NewReads, ReplaceReads};
 
 use crate::book::Book;
 use crate::matching::enter;
@@ -68,9 +68,7 @@ impl Book {
 
     /// Notes a client's ClOrdID as accepted.
     fn accept(&mut self, client: u8, name: u64)
-        requires from { 1 ≤ client }
-        requires to { client ≤ 8 }
-        requires later { greatest_of self.old.state client < name }
+        requires { IsNewName self.old.state client name }
         ensures value { self.new ≡ record self.old { state = accepted self.old.state client name self.old.state.orders } }
         ensures greatest { greatest_of self.new.state client ≡ name }
         ensures fresh { NoneNamed client name self.old.state.orders }
@@ -98,18 +96,15 @@ impl Book {
         out: &mut Vec<Output>,
         reads: &mut Reads,
     )
-        requires from { 1 ≤ cause.gateway }
-        requires to { cause.gateway ≤ 8 }
-        requires sequence { cause.sequence < 2 ^ 48 }
-        requires behind { Below cause.sequence self.old.state.orders }
+        requires next { ComesNext cause.gateway cause.sequence self.old.state.orders }
         requires price { IsPriced request.now.ord_type }
         requires quantity { IsAmount request.now.quantity }
         requires room { vec_len out.old + 8194 ≤ vec_capacity out.old }
         requires reads { reads.old ≡ 0 }
-        ensures state { self.new ≡ record self.old { state = (on_new self.old.limits.symbols self.old.state cause request.now).state } }
-        ensures told { out.new.items ≡ out.old.items ++ (on_new self.old.limits.symbols self.old.state cause request.now).outputs }
-        ensures behind { Below (cause.sequence + 1) self.new.state.orders }
-        ensures room { vec_capacity out.new ≡ vec_capacity out.old }
+        ensures state { ComesTo (on_new self.old.limits.symbols self.old.state cause request.now).state
+            (cause.sequence + 1) self.old self.new }
+        ensures told { AddsOutputs (on_new self.old.limits.symbols self.old.state cause request.now).outputs
+            out.old out.new }
         ensures reads { NewReads self.old.limits.symbols self.old.state cause request.now reads.new }
     {
         if let Some(reason) = self.new_refusal(cause.gateway, request) {
@@ -133,25 +128,16 @@ impl Book {
         out: &mut Vec<Output>,
         reads: &mut Reads,
     )
-        requires from { 1 ≤ order.now.client }
-        requires to { order.now.client ≤ 8 }
-        requires later { greatest_of self.old.state order.now.client < order.now.cl_ord_id }
+        requires name { IsNewName self.old.state order.now.client order.now.cl_ord_id }
         requires known { list_any (bytes_eq order.now.symbol) self.old.limits.symbols ≡ true }
-        requires in_range { InRange order.now }
-        requires some { 0 < leaves order.now }
-        requires behind { Below order.now.stamp self.old.state.orders }
-        requires place { is_day terms ≡ true → length self.old.state.orders < most_resting }
-        requires limit { is_day terms ≡ true → order.now.is_market ≡ false }
+        requires may_come_in { MayComeIn terms order.now self.old.state.orders }
         requires room { vec_len out.old + 8194 ≤ vec_capacity out.old }
         requires reads { reads.old < 2 ^ 32 }
-        ensures state { self.new ≡ record self.old {
-          state = accepted self.old.state order.now.client order.now.cl_ord_id (matched terms order.now self.old.state.orders);
-        } }
-        ensures told { out.new.items ≡ out.old.items ++ exec cause exec_type order.now ∷ match_outputs cause terms order.now self.old.state.orders }
-        ensures below { Below (order.now.stamp + 1) self.new.state.orders }
-        ensures room { vec_capacity out.new ≡ vec_capacity out.old }
-        ensures reads { IsMatched (filled_by terms order.now self.old.state.orders) reads.old reads.new }
-        ensures killed { terms ≡ TimeInForce.FillOrKill → can_fill order.now self.old.state.orders ≡ false → reads.new ≡ reads.old }
+        ensures state { ComesTo (accepted self.old.state order.now.client order.now.cl_ord_id
+            (matched terms order.now self.old.state.orders)) (order.now.stamp + 1) self.old self.new }
+        ensures told { AddsOutputs (exec cause exec_type order.now
+            ∷ match_outputs cause terms order.now self.old.state.orders) out.old out.new }
+        ensures reads { MatchReads terms order.now self.old.state.orders reads.old reads.new }
     {
         self.accept(order.client, order.cl_ord_id);
         tell(out, cause, exec_type, order);
@@ -166,15 +152,12 @@ impl Book {
         out: &mut Vec<Output>,
         reads: &mut Reads,
     )
-        requires from { 1 ≤ cause.gateway }
-        requires to { cause.gateway ≤ 8 }
-        requires behind { Below cause.sequence self.old.state.orders }
+        requires next { ComesNext cause.gateway cause.sequence self.old.state.orders }
         requires room { vec_len out.old + 1 ≤ vec_capacity out.old }
         requires reads { reads.old ≡ 0 }
-        ensures state { self.new ≡ record self.old { state = (on_cancel self.old.state cause request.now).state } }
-        ensures told { out.new.items ≡ out.old.items ++ (on_cancel self.old.state cause request.now).outputs }
-        ensures behind { Below (cause.sequence + 1) self.new.state.orders }
-        ensures room { vec_capacity out.new ≡ vec_capacity out.old }
+        ensures state { ComesTo (on_cancel self.old.state cause request.now).state (cause.sequence + 1)
+            self.old self.new }
+        ensures told { AddsOutputs (on_cancel self.old.state cause request.now).outputs out.old out.new }
         ensures reads { reads.new ≡ named_reads (named self.old.state cause.gateway request.now.orig_cl_ord_id) }
     {
         let named = self.named(cause.gateway, request.orig_cl_ord_id, reads);
@@ -200,17 +183,14 @@ impl Book {
         out: &mut Vec<Output>,
         reads: &mut Reads,
     )
-        requires from { 1 ≤ cause.gateway }
-        requires to { cause.gateway ≤ 8 }
-        requires behind { Below cause.sequence self.old.state.orders }
+        requires next { ComesNext cause.gateway cause.sequence self.old.state.orders }
         requires price { IsAmount request.now.price }
         requires quantity { IsAmount request.now.quantity }
         requires room { vec_len out.old + 8194 ≤ vec_capacity out.old }
         requires reads { reads.old ≡ 0 }
-        ensures state { self.new ≡ record self.old { state = (on_replace self.old.state cause request.now).state } }
-        ensures told { out.new.items ≡ out.old.items ++ (on_replace self.old.state cause request.now).outputs }
-        ensures behind { Below (cause.sequence + 1) self.new.state.orders }
-        ensures room { vec_capacity out.new ≡ vec_capacity out.old }
+        ensures state { ComesTo (on_replace self.old.state cause request.now).state (cause.sequence + 1)
+            self.old self.new }
+        ensures told { AddsOutputs (on_replace self.old.state cause request.now).outputs out.old out.new }
         ensures reads { ReplaceReads self.old.state cause request.now reads.new }
     {
         let named = self.named(cause.gateway, request.orig_cl_ord_id, reads);
@@ -231,21 +211,14 @@ impl Book {
         out: &mut Vec<Output>,
         reads: &mut Reads,
     )
-        requires from { 1 ≤ cause.gateway }
-        requires to { cause.gateway ≤ 8 }
-        requires named { named self.old.state cause.gateway request.now.orig_cl_ord_id ≡ Some order.now }
-        requires stands { StandsInBook self.old cause.gateway order.now }
-        requires fits { replace_fits request.now order.now ≡ true }
-        requires later { greatest_of self.old.state cause.gateway < request.now.cl_ord_id }
-        requires behind { Below cause.sequence self.old.state.orders }
-        requires price { request.now.price ≤ 1000000 }
-        requires quantity { request.now.quantity ≤ 1000000 }
+        requires next { ComesNext cause.gateway cause.sequence self.old.state.orders }
+        requires can_replace { CanReplace self.old cause.gateway request.now order.now }
         requires room { vec_len out.old + 8194 ≤ vec_capacity out.old }
         requires reads { reads.old ≡ 1 }
-        ensures state { self.new ≡ record self.old { state = (order_replaced self.old.state cause request.now (Some order.now)).state } }
-        ensures told { out.new.items ≡ out.old.items ++ (order_replaced self.old.state cause request.now (Some order.now)).outputs }
-        ensures behind { Below (cause.sequence + 1) self.new.state.orders }
-        ensures room { vec_capacity out.new ≡ vec_capacity out.old }
+        ensures state { ComesTo (order_replaced self.old.state cause request.now (Some order.now)).state
+            (cause.sequence + 1) self.old self.new }
+        ensures told { AddsOutputs (order_replaced self.old.state cause request.now (Some order.now)).outputs
+            out.old out.new }
         ensures reads { (1 ≤ reads.new) × (reads.new ≤ 1
             + fills (restamped cause (amended request.now order.now)) (others self.old.state cause.gateway request.now.orig_cl_ord_id) + 1) }
         ensures stays { keeps_place request.now order.now ≡ true → reads.new ≡ 1 }

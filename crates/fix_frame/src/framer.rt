@@ -55,7 +55,7 @@ impl Framer {
 
     /// Takes the piece, or its front up to the end of the frame under way, and answers how many bytes it took:
     /// none while a frame stands that `next` hasn't given. The fault of a stream is answered until `reset`.
-    pub fn feed(&mut self, piece: &[u8]) -> Result<usize, FrameFault>
+    pub fn feed(&mut self, piece: &[u8]) -> Result<usize, FrameFault> // promise 1
         ensures taken { IfOk result (TakesPiece self.old self.new piece.now) }
         ensures refused { IfErr result (Refuses self.old self.new piece.now) }
         ensures until_reset { (f : FrameFault) → self.old.fault ≡ Some f → result ≡ Err f }
@@ -74,7 +74,7 @@ impl Framer {
     }
 
     /// The frame that stands, if one does. The next `feed` begins another message.
-    pub fn next(&mut self) -> Option<Frame<'_>>
+    pub fn next(&mut self) -> Option<Frame<'_>> // promise 1
         ensures* after { sem 𝓛 (EndsGiven self.entry result) }
         ensures found { MatchOption result (IsWhole self.old.held → ⊥)
             (λ frame. IsFrame most_in self.old.held (frame_fields frame)) }

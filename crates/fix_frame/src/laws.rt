@@ -11,13 +11,13 @@ pub fn fields_are_spelled_once()
 {}
 
 /// Two cuts of one stream are one, so its frames don't depend on the pieces in which it comes.
-pub fn streams_are_cut_once()
+pub fn streams_are_cut_once() // promise 1
     ensures { (stream : List ℕ) (frames others : List (List Field)) (rest more : List ℕ) →
         Cut stream frames rest → Cut stream others more → (frames ≡ others) × (rest ≡ more) }
 {}
 
 /// A stream that begins with a frame has no fault: the next message is judged only once the frame was given.
-pub fn frames_have_no_fault()
+pub fn frames_have_no_fault() // promise 1
     ensures { (fields : List Field) (more : List ℕ) → IsBody most_in fields →
         IsFaultless (frame_text fields ++ more) }
 {}

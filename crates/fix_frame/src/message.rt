@@ -8,7 +8,7 @@ use crate::opening::open_body;
 use crate::trailer::is_typed;
 
 /// The frame that the bytes are, all of them, if they are one that may come in.
-pub fn whole(bytes: &[u8]) -> Option<Frame<'_>>
+pub fn whole(bytes: &[u8]) -> Option<Frame<'_>> // promise 1
     ensures { MatchOption result ((fields : List Field) → IsFrame most_in bytes.now fields → ⊥)
         (λ frame. IsFrame most_in bytes.now (frame_fields frame)) }
 {

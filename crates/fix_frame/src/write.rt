@@ -13,7 +13,7 @@ pub const OVERHEAD: usize = 23;
 
 /// Writes the frame of these body fields, each as `tag=value` and SOH, at the front of `out`, and answers how
 /// many bytes it has.
-pub fn write_frame(out: &mut [u8], fields: &[u8]) -> usize
+pub fn write_frame(out: &mut [u8], fields: &[u8]) -> usize // promise 1
     requires body { (fs : List Field) × SpellsBody most_out fs fields.now }
     requires room { length fields.now + OVERHEAD ≤ length out.old }
     ensures written { take result out.new ≡ frame_of fields.now }

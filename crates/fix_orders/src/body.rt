@@ -16,7 +16,7 @@ use venue_model::{
 
 /// Writes the body of a report at the front of the buffer, and answers its length. ExecID (17) is one
 /// more than the output's place in the list of all outputs.
-pub fn body_of(output: &Output, exec_id: u64, buf: &mut [u8; LONGEST_MESSAGE]) -> usize
+pub fn body_of(output: &Output, exec_id: u64, buf: &mut [u8; LONGEST_MESSAGE]) -> usize // promise 2
     ensures body { take result buf.new ≡ print_fields (body_fields output.now.report exec_id) }
     ensures fields { AllByRecursion IsField (body_fields output.now.report exec_id) }
     ensures within { result ≤ 320 }

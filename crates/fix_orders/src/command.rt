@@ -27,7 +27,7 @@ use venue_model::{
 
 /// The command of an entry's bytes, whatever they are: none but exactly one frame asks anything. Where `market` is
 /// false, an order with 40=1 is read by the table of limit orders, as before there were market orders, and so rejected.
-pub fn decode(bytes: &[u8], market: bool) -> Command
+pub fn decode(bytes: &[u8], market: bool) -> Command // promise 2
     ensures value { result ≡ reads market bytes.now }
     ensures frame { (fields : List Field) →
         IsFrame most_in bytes.now fields → result ≡ command_of market fields }

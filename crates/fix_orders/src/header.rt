@@ -41,7 +41,7 @@ pub struct HeaderFields<'a> {
 }
 
 /// The header that the fields of a frame begin with, or `None` where it is wrong.
-pub fn read_header<'a>(fields: Fields<'a>) -> Option<Header<'a>>
+pub fn read_header<'a>(fields: Fields<'a>) -> Option<Header<'a>> // promise 2
     ensures value { header_of (fields_left fields.entry) ≡ option_map as_header result }
     ensures number { IfSome result (λ h. (1 ≤ h.number) × (h.number ≤ 999999999)) }
     ensures time { IfSome result (λ h. IsTrue (is_time h.time.now)) }

@@ -1,7 +1,9 @@
 -- A session that goes on by a turn has delivered what moved in the turn besides.
-use Rattle.std.proofs.Common.{◌≡◌, ℕ, Bool, true, false, List, [], ◌∷◌, ◌++◌, refl, ap, sym, ◌∙◌, arith, append_assoc}
-use Rattle.std.proofs.Common.{append-nil, length-append}
+use Rattle.std.proofs.Common.{◌≡◌, inl, ℕ, Bool, true, false, List, [], ◌∷◌, ◌++◌, refl, ap, sym, ◌∙◌, arith}
+use Rattle.std.proofs.Common.{append_assoc, append-nil, length-append}
 use Rattle.std.specs.List.{flat_map, list_any}
+use Rattle.venue_model.specs.Requests.{Limits}
+use Rattle.ring_words.specs.At as ring
 use Rattle.fix_orders.specs.Text.{Said}
 use Rattle.gateway.specs.Answers.{Logon, Heartbeat, Logout}
 use Rattle.gateway.specs.Standing.{Item, Answer, Output, is_logon, is_last, orderly, outputs_in, Standing, At}
@@ -11,7 +13,9 @@ use Rattle.gateway.specs.Turns.{world, Front, Moved, Takes, Turn}
 use Rattle.gateway.specs.declared.ending.Turned.{Turned}
 use Rattle.gateway.specs.Delivers.{Course, nothing_yet, further, Start, Delivers, Proceeds}
 use Rattle.gateway.specs.Gateways.{AtRings, around}
-use Rattle.gateway.specs.Seats.{ledger_of}
+use Rattle.gateway.specs.Seats.{ledger_of, StaysSeated, MayEnter, MayLook, Uses}
+use Rattle.gateway.proofs.SeatLemmas.{seat_still, used}
+use Rattle.gateway.proofs.Lists.{no_front}
 use Rattle.wires.specs.WireLaws.{grown-append, grown-nil}
 
 -- where no Logon stands among the items no output does
@@ -33,10 +37,6 @@ pub none_given : (s : Standing) (input : List ℕ) (messages : List (List ℕ)) 
 none_given s input messages outs written at off =
     let spoken = at.spoken in
     sym spoken.says.handed ∙ no_outputs spoken.items spoken.says.order (sym spoken.logon ∙ off)
-
-no_front : (xs ys : List Said) → xs ++ ys ≡ [] → xs ≡ []
-no_front [] ys e = refl
-no_front (x ∷ xs) ys e = cc
 
 -- a session begins
 pub begins : (front : Front) (wire : Told) (desk : Ledger) → At front.session [] [] [] [] → front.waiting ≡ [] →
@@ -61,19 +61,13 @@ module _ (start : Start) (old new : Front) (wire wire' : Told) (desk desk' : Led
 
   -- what the wire gave is what was fed and what waits
   gave : wire'.gave ≡ grown start.wire.gave ((c.input ++ m.fed) ++ new.waiting)
-  gave =
-      let all : (c.input ++ old.waiting) ++ m.got ≡ (c.input ++ m.fed) ++ new.waiting =
-      append_assoc c.input old.waiting m.got ∙ ap (λ x. c.input ++ x) (sym turn.step.input)
-      ∙ sym (append_assoc c.input m.fed new.waiting) in
-      turn.step.gave ∙ ap (λ t. grown t m.got) so_far.gave ∙ grown-append start.wire.gave (c.input ++ old.waiting) m.got
-      ∙ ap (grown start.wire.gave) all
+  gave = simp (turn.step.gave, so_far.gave, grown-append, append_assoc, ← turn.step.input)
 
   took : wire'.took ≡ grown start.wire.took (c.written ++ m.put)
-  took = turn.step.took ∙ ap (λ t. grown t m.put) so_far.took ∙ grown-append start.wire.took c.written m.put
+  took = simp (turn.step.took, so_far.took, grown-append)
 
   published : desk'.published ≡ start.desk.published ++ (c.messages ++ m.messages)
-  published = turn.step.published ∙ ap (λ ms. ms ++ m.messages) so_far.published
-      ∙ append_assoc start.desk.published c.messages m.messages
+  published = simp (turn.step.published, so_far.published, append_assoc)
 
   -- the outputs taken in the turn were given, or missed
   goes-on : (on : Bool) → new.session.logged_on ≡ on → Takes on old new desk desk' m.handed
@@ -82,28 +76,19 @@ module _ (start : Start) (old new : Front) (wire wire' : Told) (desk desk' : Led
     stands = stands;
     published = published;
     missed = so_far.missed;
-    taken = takes.taken ∙ ap (λ ts. ts ++ takes.these) so_far.taken
-        ∙ append_assoc start.desk.taken (so_far.missed ++ c.outs) takes.these
-        ∙ ap (λ ts. start.desk.taken ++ ts) (append_assoc so_far.missed c.outs takes.these)
-        ∙ ap (λ ts. start.desk.taken ++ (so_far.missed ++ (c.outs ++ ts))) (sym takes.given);
-    passed_over = let before = so_far.passed_over in let now = takes.passed in omega (arith, before, now);
+    taken = simp (takes.taken, so_far.taken, takes.given, append_assoc);
+    passed_over = omega (arith, so_far.passed_over, takes.passed);
     gave = gave;
     took = took;
   }
   goes-on false off takes =
       let none = none_given new.session _ _ _ _ stands off in
-      let none_before : c.outs ≡ [] = no_front c.outs m.handed none in
-      let long = length-append so_far.missed takes.these in record {
+      let none_before : c.outs ≡ [] = no_front c.outs m.handed none in record {
         stands = stands;
         published = published;
         missed = so_far.missed ++ takes.these;
-        taken = takes.taken ∙ ap (λ ts. ts ++ takes.these) so_far.taken
-            ∙ ap (λ os. (start.desk.taken ++ (so_far.missed ++ os)) ++ takes.these) none_before
-            ∙ append_assoc start.desk.taken (so_far.missed ++ []) takes.these
-            ∙ ap (λ ts. start.desk.taken ++ (ts ++ takes.these)) (append-nil so_far.missed)
-            ∙ ap (λ ts. start.desk.taken ++ ts) (sym (append-nil (so_far.missed ++ takes.these)))
-            ∙ ap (λ os. start.desk.taken ++ ((so_far.missed ++ takes.these) ++ os)) (sym none);
-        passed_over = let before = so_far.passed_over in let now = takes.passed in omega (arith, before, now, long);
+        taken = simp (takes.taken, so_far.taken, takes.given, none_before, append-nil, append_assoc);
+        passed_over = omega (arith, so_far.passed_over, takes.passed, length-append so_far.missed takes.these);
         gave = gave;
         took = took;
       }
@@ -120,3 +105,20 @@ proceeds n old new wire wire' answer turn = record {
   delivers = λ start c. delivers start old.front new.front wire wire' (ledger_of n old.seat) (ledger_of n new.seat)
       answer c turn;
 }
+
+-- What a turn comes to at a seat that was used for a try to publish, and then for a look.
+pub turn-used : {n : ℕ} {self old new : AtRings} {wire wire' : Told} {answer : Turned} {s t : ring.At Limits}
+    → old ≡ self → StaysSeated old.seat s → MayEnter n old.seat s → StaysSeated s t → MayLook s t → new.seat ≡ t
+    → Turn (around n old wire) (world new.front wire' (ledger_of n t)) answer
+    → record { turn : Proceeds n self new wire wire' answer; uses : Uses n self.seat new.seat }
+turn-used is first enters next looks seat turn = rw (← is) (record {
+  turn = proceeds _ _ _ _ _ _ (rw seat turn);
+  uses = rw seat (used first enters next looks);
+})
+
+-- And at one that wasn't used.
+pub turn-unused : {n : ℕ} {self old new : AtRings} {wire wire' : Told} {answer : Turned} → old ≡ self
+    → new.seat ≡ old.seat → Turn (around n old wire) (world new.front wire' (ledger_of n old.seat)) answer
+    → record { turn : Proceeds n self new wire wire' answer; uses : Uses n self.seat new.seat }
+turn-unused {old = old} is seat turn =
+    turn-used is (seat_still old.seat) (inl refl) (seat_still old.seat) (inl refl) seat turn

@@ -1,5 +1,5 @@
 -- What a feed of the session comes to, from what the framer and the judgement tell.
-use Rattle.std.proofs.Common.{◌≡◌, ℕ, zero, suc, ◌≤◌, List, [], ◌++◌, length, take, ap, refl, sym, ◌∙◌, subst, inl, inr}
+use Rattle.std.proofs.Common.{◌≡◌, ℕ, zero, suc, ◌≤◌, List, [], ◌++◌, length, take, refl, sym, ◌∙◌, inl, inr}
 use Rattle.std.proofs.Common.{arith, append-nil, Option, Some, None}
 use Rattle.std.proofs.lemmas.List.{take_all}
 use Rattle.fix_frame.specs.Grammar.{Field, IsBody, frame_text, most_in}
@@ -37,14 +37,12 @@ under_way_gone time message (Refuse r) s rest = refl
 -- nor what was held before a message that is to be held
 held_gone : (time message : List ℕ) (j : Judged) (s : Standing) (held : Option (List ℕ)) → Holds message j s.held held →
     heard time message (verdict_of j) (record s { held = held }) ≡ heard time message (verdict_of j) s
-held_gone time message judged.Welcome s held stays = ap (λ h. heard time message Welcome (record s { held = h })) stays
-held_gone time message (judged.Beat echo) s held stays =
-    ap (λ h. heard time message (Beat echo.items) (record s { held = h })) stays
-held_gone time message judged.Pass s held stays = ap (λ h. heard time message Pass (record s { held = h })) stays
-held_gone time message judged.Leave s held stays = ap (λ h. heard time message Leave (record s { held = h })) stays
+held_gone time message judged.Welcome s held stays = rw stays
+held_gone time message (judged.Beat echo) s held stays = rw stays
+held_gone time message judged.Pass s held stays = rw stays
+held_gone time message judged.Leave s held stays = rw stays
 held_gone time message judged.Hold s held is = refl
-held_gone time message (judged.Refuse r) s held stays =
-    ap (λ h. heard time message (Refuse r) (record s { held = h })) stays
+held_gone time message (judged.Refuse r) s held stays = rw stays
 
 -- a message that is to be held is held
 pub is_held : (message : List ℕ) (j : Judged) (before held : Option (List ℕ)) → Holds message j before held
@@ -72,11 +70,9 @@ listens-frame old new piece n frame rest time text j held partial within body wh
         frame = frame;
         body = body;
         whole = whole;
-        new_is = new_is ∙ under_way_gone time text (verdict_of j) (record old { held = held }) rest
-            ∙ held_gone time text j old held holds
-            ∙ ap (λ t. heard time t (verdict_of j) old) text_is
-            ∙ ap (λ t. heard t (frame_text frame) (verdict_of j) old) time_is
-            ∙ ap (λ w. heard (time_after old.time frame) (frame_text frame) w old) v_is;
+        new_is = rw (← v_is, ← time_is, ← text_is) (new_is
+            ∙ under_way_gone time text (verdict_of j) (record old { held = held }) rest
+            ∙ held_gone time text j old held holds);
       }));
     }
 
@@ -91,8 +87,7 @@ listens-fault old new piece left at fault some faults new_is = record {
     fault = fault;
     left = left;
     at = at;
-    faults = subst (λ fed. Faults (old.under_way ++ fed) at fault) (sym (take_all (length piece) piece (omega arith)))
-        faults;
+    faults = rw (take_all (length piece) piece (omega arith)) faults;
     new_is = new_is;
   });
 }
@@ -102,7 +97,7 @@ pub refused_is : (s new : Standing) (left time text : List ℕ) (r : Refusal) �
     new ≡ replying (Logout time text) (record s { under_way = left; closing = Some Refused })
     → new ≡ refusing time r (record s { under_way = left })
 refused_is s new left time text r text_is new_is =
-    new_is ∙ ap (λ t. replying (Logout time t) (record s { under_way = left; closing = Some Refused })) text_is
+    rw text_is at new_is
 
 -- a framer that had no fault has found one
 pub fault_now : (framer : Framing) (piece : List ℕ) (fault : FrameFault) → framer.fault ≡ None

@@ -1,6 +1,6 @@
 -- A turn that hears nothing: the wire fails or is stuck in the flush, or the session closes behind it.
 use Rattle.std.proofs.Common.{◌≡◌, ◌≢◌, ◌⊎◌, inl, inr, ℕ, suc, nat_lt, ◌+◌, ◌≤◌, ◌<◌, Bool, true, false}
-use Rattle.std.proofs.Common.{true≢false, List, [], ◌∷◌, ◌++◌, length, refl, ap, sym, subst, ◌∙◌, arith}
+use Rattle.std.proofs.Common.{if◌then◌else◌, List, [], ◌∷◌, ◌++◌, length, refl, ap, sym, ◌∙◌, arith}
 use Rattle.std.proofs.Common.{append-nil, length-append, Some, None}
 use borrow.Author.Tests.{ltb-true, ltb-false}
 use Rattle.gateway.specs.declared.ending.Reason.{Reason}
@@ -18,32 +18,19 @@ use Rattle.gateway.specs.Turns.{World, world, Front, Moved, nothing_moved, Takes
 use Rattle.gateway.specs.Turns.{EndedBy, Means, CountsTurns}
 use Rattle.gateway.specs.Turns.{Attends, Turn}
 use Rattle.gateway.specs.TurnParts.{Stuck, StuckSo}
+use Rattle.gateway.proofs.Lists.{no_end}
 use Rattle.gateway.proofs.StepLemmas.{flush-step, handles-none}
 
 -- no outputs are taken
 pub no_takes : (on : Bool) (old new : Front) (desk desk' : Ledger) → desk'.taken ≡ desk.taken → new.passed ≡ old.passed
     → Takes on old new desk desk' []
-no_takes true old new desk desk' none same = record {
+no_takes on old new desk desk' none same = record {
   these = [];
-  taken = none ∙ sym (append-nil desk.taken);
-  given = refl;
-  passed = omega arith;
+  taken = rw append-nil none;
+  given = elim on as (λ b. nothing_moved.handed ≡ (if b then [] else [])) [ true ↦ refl | false ↦ refl ];
+  passed =
+      elim on as (λ b. new.passed ≡ old.passed + (if b then 0 else 0)) [ true ↦ omega arith | false ↦ omega arith ];
 }
-no_takes false old new desk desk' none same = record {
-  these = [];
-  taken = none ∙ sym (append-nil desk.taken);
-  given = refl;
-  passed = omega arith;
-}
-
--- what was written is nothing only if nothing was written
-pub no_front : (put rest : List ℕ) → put ++ rest ≡ [] → put ≡ []
-no_front [] rest e = refl
-no_front (b ∷ put) rest e = cc
-
-no_end : (put rest : List ℕ) → put ++ rest ≡ [] → rest ≡ []
-no_end [] rest e = e
-no_end (b ∷ put) rest e = cc
 
 -- fewer bytes stand where some were written, and no fewer where none was
 pub wrote_some : (stood put rest : List ℕ) → stood ≡ put ++ rest → nat_lt (length rest) (length stood) ≡ true → put ≢ []
@@ -66,13 +53,9 @@ no_rest [] rest e = sym e
 no_rest (b ∷ put) rest e = no_rest put rest cc
 
 -- a session that has ended needn't attend to anything
-pub over-attends : (old new : Front) (wire wire' : Told) (desk desk' : Ledger) (m : Moved) → new.live ≡ false
-    → Attends (world old wire desk) (world new wire' desk') m
-over-attends old new wire wire' desk desk' m over = record {
-  writes = λ live. absurd (true≢false (sym live ∙ over));
-  listens = λ live. absurd (true≢false (sym live ∙ over));
-  looks = λ live. absurd (true≢false (sym live ∙ over));
-}
+pub over-attends : (old new : World) (m : Moved) → new.front.live ≡ false → Attends old new m
+over-attends old new m over =
+    record { writes = λ live. absurd (cc); listens = λ live. absurd (cc); looks = λ live. absurd (cc) }
 
 -- where nothing was loaded it wasn't seen that no sequence was left
 unloaded : (desk : Ledger) → WasExhausted desk desk → ⊥
@@ -111,24 +94,19 @@ module _ (old : Front) (session : Standing) (wire wire' : Told) (desk : Ledger) 
     exhausts = λ holds none. absurd (unloaded desk none);
   }
 
--- a count that didn't rise rose by nothing
-no_more : (desk : Ledger) (A : Type 0) → desk.count < desk.count → A
-no_more desk A more = absurd (omega (arith, more))
-
 -- a session is over: its counts are as they were, or the first began again
-pub over-counts : (old new : Front) (wire wire' : Told) (desk desk' : Ledger) (m : Moved) (answer : Turned)
-    → new.live ≡ false → (new.deaf ≡ 0) ⊎ (new.deaf ≡ old.deaf) →
-    new.idle ≡ old.idle → (answer ≢ Ended WireFailed → old.session.outgoing ≢ [] → m.put ≢ [])
-    → (answer ≢ Ended WireFailed → new.session.closing ≢ None) →
-    CountsTurns (world old wire desk) (world new wire' desk') m answer
-over-counts old new wire wire' desk desk' m answer over deaf idle all closes = record {
+pub over-counts : (old new : World) (m : Moved) (answer : Turned) → new.front.live ≡ false
+    → (new.front.deaf ≡ 0) ⊎ (new.front.deaf ≡ old.front.deaf) → new.front.idle ≡ old.front.idle
+    → (answer ≢ Ended WireFailed → old.front.session.outgoing ≢ [] → m.put ≢ [])
+    → (answer ≢ Ended WireFailed → new.front.session.closing ≢ None) → CountsTurns old new m answer
+over-counts old new m answer over deaf idle all closes = record {
   deaf = elim deaf [ inl zero ↦ inl zero | inr same ↦ inr (inl same) ];
   idle = inr (inl idle);
   deaf_rises = λ other stood none. absurd (all other stood none);
   idle_rises = λ other closed is_open. absurd (closes other is_open);
-  wrote = λ live. absurd (true≢false (sym live ∙ over));
-  wrote_all = λ live. absurd (true≢false (sym live ∙ over));
-  took = λ live. absurd (true≢false (sym live ∙ over));
+  wrote = λ live. absurd (cc);
+  wrote_all = λ live. absurd (cc);
+  took = λ live. absurd (cc);
   stuck = λ left. idle;
 }
 
@@ -140,40 +118,73 @@ pub turn-failed : (old : Front) (session : Standing) (wire wire' : Told) (desk :
 turn-failed old session wire wire' desk session_is (put, split, (rose, tells)) =
     flushed-turn old session wire wire' desk put split session_is (ap (λ (t : Told). t.gave) tells)
     (ap (λ (t : Told). t.took) tells) (ap (λ (t : Told). t.ends) tells)
-    old.deaf old.idle false (Ended WireFailed) (λ more. refl)
-    (over-attends old (record old { session = session; live = false }) wire wire' desk desk
-    (record nothing_moved { put = put }) refl) (rose, refl)
-    (over-counts old (record old { session = session; live = false }) wire wire' desk desk
-    (record nothing_moved { put = put }) (Ended WireFailed) refl (inr refl) refl
-    (λ other. absurd (other refl)) (λ other. absurd (other refl)))
+    old.deaf old.idle false (Ended WireFailed) (λ more. refl) (over-attends _ _ _ refl) (rose, refl)
+    (over-counts _ _ _ _ refl (inr refl) refl (λ other. absurd (other refl)) (λ other. absurd (other refl)))
 
 -- the wire took no more in the flush
-stuck-means : (old new : Front) (wire wire' : Told) (desk : Ledger) (put : List ℕ) (wrote : Bool) (answer : Turned) →
-    old.session.outgoing ≡ put ++ new.session.outgoing → new.session.outgoing ≢ [] → old.live ≡ true →
-    wrote ≡ nat_lt (length new.session.outgoing) (length old.session.outgoing)
-    → Rose wire.full_writes wire'.full_writes →
-    StuckSo old new wrote answer → Means (world old wire desk) (world new wire' desk)
-    (record nothing_moved { put = put }) answer
-stuck-means old new wire wire' desk put wrote Worked split left live wrote_is rose so = (
-  inl (λ same. wrote_some old.session.outgoing put new.session.outgoing split (sym wrote_is ∙ so.1)
-      (ap (λ (m : Moved). m.put) same)),
-  record { live = so.0 ∙ live; unsaid = λ closing. left },
-)
-stuck-means old new wire wire' desk put wrote Quiet split left live wrote_is rose so = (
-  record {
-    still = ap (λ p. record nothing_moved { put = p })
-        (wrote_none old.session.outgoing put new.session.outgoing split (sym wrote_is ∙ so.1));
-    stuck = λ stood. rose;
-    unheard = λ silent. absurd (left (no_end put new.session.outgoing (sym split ∙ silent)));
-    untaken = refl;
-    unhanded = λ silent. absurd (left (no_end put new.session.outgoing (sym split ∙ silent)));
-  },
-  record { live = so.0 ∙ live; unsaid = λ closing. left },
-)
-stuck-means old new wire wire' desk put wrote (Ended reason) split left live wrote_is rose so =
-    let full = so.2 in let more = so.4 in
-    subst (λ (r : Reason). EndedBy (world old wire desk) (world new wire' desk) r × (new.live ≡ false)) (sym so.1)
-    ((so.2, omega (arith, full, more)), so.0)
+module _ (old new : Front) (wire wire' : Told) (desk : Ledger) (put : List ℕ) (wrote : Bool)
+    (split : old.session.outgoing ≡ put ++ new.session.outgoing) (left : new.session.outgoing ≢ [])
+    (wrote_is : wrote ≡ nat_lt (length new.session.outgoing) (length old.session.outgoing))
+    (rose : Rose wire.full_writes wire'.full_writes) where
+  abbrev before : World
+  before = world old wire desk
+
+  abbrev after : World
+  after = world new wire' desk
+
+  abbrev moved : Moved
+  moved = record nothing_moved { put = put }
+
+  some_written : wrote ≡ true → put ≢ []
+  some_written is = wrote_some old.session.outgoing put new.session.outgoing split (sym wrote_is ∙ is)
+
+  none_written : wrote ≡ false → put ≡ []
+  none_written is = wrote_none old.session.outgoing put new.session.outgoing split (sym wrote_is ∙ is)
+
+  -- something stood to be written
+  stood : old.session.outgoing ≢ []
+  stood silent = left (no_end put new.session.outgoing (sym split ∙ silent))
+
+  stuck-means : (answer : Turned) → old.live ≡ true → StuckSo old new wrote answer → Means before after moved answer
+  stuck-means Worked live so = (
+    inl (λ same. some_written so.1 (ap (λ (m : Moved). m.put) same)),
+    record { live = so.0 ∙ live; unsaid = λ closing. left },
+  )
+  stuck-means Quiet live so = (
+    record {
+      still = rw (none_written so.1);
+      stuck = λ _. rose;
+      unheard = λ silent. absurd (stood silent);
+      untaken = refl;
+      unhanded = λ silent. absurd (stood silent);
+    },
+    record { live = so.0 ∙ live; unsaid = λ closing. left },
+  )
+  stuck-means (Ended reason) live so =
+      let full = so.2 in let more = so.4 in rw so.1 ((full, omega (arith, full, more)), so.0)
+
+  -- the first count rises where nothing was written, and begins again where something was
+  counts-stuck : (answer : Turned) → new.idle ≡ old.idle
+      → ((put ≢ []) × (new.deaf ≡ 0)) ⊎ ((put ≡ []) × (new.deaf ≡ old.deaf + 1)) → CountsTurns before after moved answer
+  counts-stuck answer idle deaf = record {
+    deaf = elim deaf [
+      | inl (some, again) ↦ inl again
+      | inr (none, more) ↦ inr (inr (more, stood, none, rose))
+    ];
+    idle = inr (inl idle);
+    deaf_rises = λ other was none. elim deaf [ inl (some, again) ↦ absurd (some none) | inr (same, more) ↦ more ];
+    idle_rises = λ other closed is_open silent. absurd (stood silent);
+    wrote = λ live some. elim deaf [ inl (same, again) ↦ again | inr (none, more) ↦ absurd (some none) ];
+    wrote_all = λ live some all. absurd (left (no_rest put new.session.outgoing (all ∙ split)));
+    took = λ live more. absurd (omega (arith, more));
+    stuck = λ rests. idle;
+  }
+
+  stuck-counts : (answer : Turned) → new.idle ≡ old.idle → StuckSo old new wrote answer
+      → CountsTurns before after moved answer
+  stuck-counts Worked idle so = counts-stuck Worked idle (inl (some_written so.1, so.2))
+  stuck-counts Quiet idle so = counts-stuck Quiet idle (inr (none_written so.1, so.2))
+  stuck-counts (Ended reason) idle so = counts-stuck (Ended reason) idle (inr (none_written so.3, so.4))
 
 -- what the stuck part says of the gateway before the flush, and of its end
 stuck-so : (old : Front) (session : Standing) (new : Front) (wrote : Bool) (answer : Turned)
@@ -183,47 +194,7 @@ stuck-so old session new wrote Worked idle stuck = stuck.so
 stuck-so old session new wrote Quiet idle stuck = stuck.so
 stuck-so old session new wrote (Ended reason) idle stuck = stuck.so
 
--- the counts of a turn that couldn't write all
-stuck-counts : (old new : Front) (wire wire' : Told) (desk : Ledger) (put : List ℕ) (wrote : Bool) (answer : Turned) →
-    old.session.outgoing ≡ put ++ new.session.outgoing → new.session.outgoing ≢ [] → new.idle ≡ old.idle →
-    wrote ≡ nat_lt (length new.session.outgoing) (length old.session.outgoing)
-    → Rose wire.full_writes wire'.full_writes →
-    StuckSo old new wrote answer → CountsTurns (world old wire desk) (world new wire' desk)
-    (record nothing_moved { put = put }) answer
-stuck-counts old new wire wire' desk put wrote Worked split left idle wrote_is rose so = record {
-  deaf = inl so.2;
-  idle = inr (inl idle);
-  deaf_rises = λ other stood none. absurd
-      (wrote_some old.session.outgoing put new.session.outgoing split (sym wrote_is ∙ so.1) none);
-  idle_rises = λ other closed is_open silent. absurd (left (no_end put new.session.outgoing (sym split ∙ silent)));
-  wrote = λ live some. so.2;
-  wrote_all = λ live some all. absurd (left (no_rest put new.session.outgoing (all ∙ split)));
-  took = λ live more. no_more desk _ more;
-  stuck = λ rests. idle;
-}
-stuck-counts old new wire wire' desk put wrote Quiet split left idle wrote_is rose so =
-    let none = wrote_none old.session.outgoing put new.session.outgoing split (sym wrote_is ∙ so.1) in record {
-      deaf = inr (inr (so.2, (λ silent. left (no_end put new.session.outgoing (sym split ∙ silent))), none, rose));
-      idle = inr (inl idle);
-      deaf_rises = λ other stood unput. so.2;
-      idle_rises = λ other closed is_open silent. absurd (left (no_end put new.session.outgoing (sym split ∙ silent)));
-      wrote = λ live some. absurd (some none);
-      wrote_all = λ live some all. absurd (some none);
-      took = λ live more. no_more desk _ more;
-      stuck = λ rests. idle;
-    }
-stuck-counts old new wire wire' desk put wrote (Ended reason) split left idle wrote_is rose so =
-    let none = wrote_none old.session.outgoing put new.session.outgoing split (sym wrote_is ∙ so.3) in record {
-      deaf = inr (inr (so.4, (λ silent. left (no_end put new.session.outgoing (sym split ∙ silent))), none, rose));
-      idle = inr (inl idle);
-      deaf_rises = λ other stood unput. so.4;
-      idle_rises = λ other closed is_open silent. absurd (left (no_end put new.session.outgoing (sym split ∙ silent)));
-      wrote = λ live some. absurd (some none);
-      wrote_all = λ live some all. absurd (some none);
-      took = λ live more. no_more desk _ more;
-      stuck = λ rests. idle;
-    }
-
+-- so does the whole turn
 pub turn-stuck : (old : Front) (session : Standing) (new : Front) (wire wire' : Told) (desk : Ledger) (wrote : Bool)
     (answer : Turned) →
     session ≡ record old.session { outgoing = session.outgoing } → old.live ≡ true →
@@ -234,20 +205,18 @@ pub turn-stuck : (old : Front) (session : Standing) (new : Front) (wire wire' : 
 turn-stuck old session new wire wire' desk wrote answer session_is live (put, split, (left, rose, tells)) wrote_is
     idle stuck stays =
     let end = record old { session = session; deaf = new.deaf; idle = idle; live = new.live } in
-    subst (λ (f : Front). Turn (world old wire desk) (world f wire' desk) answer) (sym stuck.others)
-    (flushed-turn old session wire wire' desk put split session_is (ap (λ (t : Told). t.gave) tells)
+    let so = stuck-so old session new wrote answer idle stuck in
+    let unwritten = λ (all : put ≡ old.session.outgoing). left (no_rest put session.outgoing (all ∙ split)) in
+    rw stuck.others (flushed-turn old session wire wire' desk put split session_is (ap (λ (t : Told). t.gave) tells)
     (ap (λ (t : Told). t.took) tells) (ap (λ (t : Told). t.ends) tells)
     new.deaf idle new.live answer (λ more. absurd (more (ap (λ (t : Told). t.failures) tells)))
     (record {
       writes = λ lives. inr (rose, refl, refl);
-      listens =
-          λ lives all. absurd (left (no_rest put session.outgoing (all ∙ split)));
-      looks = λ lives all. absurd (left (no_rest put session.outgoing (all ∙ split)));
+      listens = λ lives all. absurd (unwritten all);
+      looks = λ lives all. absurd (unwritten all);
     })
-    (stuck-means old end wire wire' desk put wrote answer split left live wrote_is rose
-    (stuck-so old session new wrote answer idle stuck))
-    (stuck-counts old end wire wire' desk put wrote answer split left stays wrote_is rose
-    (stuck-so old session new wrote answer idle stuck)))
+    (stuck-means old end wire wire' desk put wrote split left wrote_is rose answer live so)
+    (stuck-counts old end wire wire' desk put wrote split left wrote_is rose answer stays so))
 
 -- the session was closing, and all is written
 closed-by : (old new : World) (reason : Reason) → ClosesItself reason → new.front.session.closing ≡ Some reason
@@ -270,12 +239,9 @@ turn-closed old session wire wire' desk reason session_is (put, split, (none, te
     flushed-turn old session wire wire' desk put split session_is (ap (λ (t : Told). t.gave) tells)
     (ap (λ (t : Told). t.took) tells) (ap (λ (t : Told). t.ends) tells)
     0 old.idle false (Ended reason) (λ more. absurd (more (ap (λ (t : Told). t.failures) tells)))
-    (over-attends old (record old { session = session; deaf = 0; live = false }) wire wire' desk desk
-    (record nothing_moved { put = put }) refl) (
+    (over-attends _ _ _ refl) (
       closed-by (world old wire desk) (world (record old { session = session; deaf = 0; live = false }) wire' desk)
           reason own closing none,
       refl,
     )
-    (over-counts old (record old { session = session; deaf = 0; live = false }) wire wire' desk desk
-    (record nothing_moved { put = put }) (Ended reason) refl (inl refl) refl
-    (λ other stood unput. stood (split ∙ ap (λ p. p ++ session.outgoing) unput ∙ none)) (λ other is_open. cc))
+    (over-counts _ _ _ _ refl (inl refl) refl (λ _ stood unput. stood (rw (split, unput) none)) (λ _ is_open. cc))

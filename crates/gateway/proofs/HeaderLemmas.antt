@@ -69,42 +69,26 @@ number_field tag n low high fits =
     let numeral = decimal_is_IsNumeral n fits in
     record { tag_from = low; tag_to = high; valued = numeral.0.0; ends = lacks_soh-digits (decimal n) numeral.0.1 }
 
+two_digit_field : (tag : ℕ) (value : List ℕ) → 1 ≤ tag → tag ≤ 99 → 1 ≤ length value → LacksSoh value
+    → IsField (field tag value)
+two_digit_field tag value low high some lacks =
+    record { tag_from = low; tag_to = omega arith; valued = some; ends = lacks }
+
 type_field : (type : List ℕ) → IsTypeText type → IsField (field 35 type)
-type_field type (b, other, type_is) =
-    subst (λ t. IsField (field 35 t)) (sym type_is)
-    (record { tag_from = omega arith; tag_to = omega arith; valued = omega arith; ends = (other, tt) })
+type_field type (b, other, is) = rw is (two_digit_field 35 _ (omega arith) (omega arith) (omega arith) (other, tt))
 
 venue_field : IsField (field 49 venue_name)
-venue_field = record {
-  tag_from = omega arith;
-  tag_to = omega arith;
-  valued = omega arith;
-  ends = (
-    (λ e. absurd (omega arith)),
-    (
-      (λ e. absurd (omega arith)),
-      ((λ e. absurd (omega arith)), ((λ e. absurd (omega arith)), ((λ e. absurd (omega arith)), tt))),
-    ),
-  );
-}
+venue_field = two_digit_field 49 venue_name (omega arith) (omega arith) (omega arith) (omega arith)
 
 client_field : (gateway : ℕ) → gateway < 256 → IsField (field 56 (client_name gateway))
 client_field gateway small =
     let numeral = decimal_is_IsNumeral gateway (omega arith) in
-    record {
-      tag_from = omega arith;
-      tag_to = omega arith;
-      valued = omega arith;
-      ends = ((λ e. absurd (omega arith)), lacks_soh-digits (decimal gateway) numeral.0.1);
-    }
+    two_digit_field 56 (client_name gateway) (omega arith) (omega arith) (omega arith)
+    ((λ e. absurd (omega arith)), lacks_soh-digits (decimal gateway) numeral.0.1)
 
 time_field : (n : ℕ) → IsField (field 52 (time_text n))
-time_field n = record {
-  tag_from = omega arith;
-  tag_to = omega arith;
-  valued = omega (arith, length_time n);
-  ends = lacks_soh-time n;
-}
+time_field n =
+    two_digit_field 52 (time_text n) (omega arith) (omega arith) (omega (arith, length_time n)) (lacks_soh-time n)
 
 -- tags of two digits
 length_tags : (length (decimal 35) ≡ 2) × (length (decimal 49) ≡ 2) × (length (decimal 56) ≡ 2)
@@ -148,8 +132,7 @@ pub parties_put : (a b : List ℕ) (end type gateway : ℕ) → gateway < 10
     → PutsFields a b 0 end (field 35 (type ∷ []) ∷ field 49 venue_name ∷ field 56 (client_name gateway) ∷ [])
 parties_put a b end type gateway small puts =
     let fields = field 35 (type ∷ []) ∷ field 49 venue_name ∷ field 56 (client_name gateway) ∷ [] in
-    let spelled : Puts a b 0 end (print_fields fields) =
-    subst (λ bytes. Puts a b 0 end bytes) (sym (parties_are type gateway small)) puts in
+    let spelled : Puts a b 0 end (print_fields fields) = rw (parties_are type gateway small) puts in
     record { written = spelled.written; behind = spelled.behind; long = spelled.long }
 
 -- the header's fields as they are written
@@ -158,11 +141,7 @@ pub header_put : (a b : List ℕ) (end gateway n : ℕ) (type moment : List ℕ)
     ∷ number 34 n ∷ field 52 moment ∷ []) →
     PutsFields a b 0 end (header_fields gateway n type moment)
 header_put a b end gateway n type moment (first, other, type_is) puts =
-    let same : get_or type 0 0 ∷ [] ≡ type = ap (λ t. get_or t 0 0 ∷ []) type_is ∙ sym type_is in
-    subst (λ fs. PutsFields a b 0 end fs)
-    (ap (λ t. field 35 t ∷ field 49 venue_name ∷ field 56 (client_name gateway) ∷ number 34 n ∷ field 52 moment ∷ [])
-    same)
-    puts
+    let same : get_or type 0 0 ∷ [] ≡ type = ap (λ t. get_or t 0 0 ∷ []) type_is ∙ sym type_is in rw same at puts
 
 -- a header and a body are a body that goes out
 pub message_body : (gateway n time : ℕ) (type : List ℕ) (body : List Field) → gateway < 256 → n < 2 ^ 64
@@ -195,17 +174,9 @@ message_body gateway n time type body small fits kind each short =
 pub behind_header : (header : List Field) (body blank filled whole : List ℕ) (begun upto : ℕ)
     → PutsFields blank filled 0 begun header → Puts filled whole begun upto body →
     take upto whole ≡ print_fields header ++ body
-behind_header header body blank filled whole begun upto first then = then.written
-    ∙ ap (λ front. front ++ body) first.written
+behind_header header body blank filled whole begun upto first then = rw first.written at then.written
 
 -- they spell a body
--- with the text of a time
-pub at_time : (gateway n time : ℕ) (type body bytes text : List ℕ) → text ≡ time_text time
-    → bytes ≡ print_fields (header_fields gateway n type text) ++ body →
-    bytes ≡ print_fields (header_fields gateway n type (time_text time)) ++ body
-at_time gateway n time type body bytes text text_is is = is
-    ∙ ap (λ t. print_fields (header_fields gateway n type t) ++ body) text_is
-
 pub spelled : (gateway n time : ℕ) (type body bytes : List ℕ) → gateway < 256 → n < 2 ^ 64 → IsTypeText type
     → AreFields body → length body ≤ 320 →
     bytes ≡ print_fields (header_fields gateway n type (time_text time)) ++ body
@@ -215,7 +186,7 @@ spelled gateway n time type body bytes small fits kind (fields, each, are) short
       header ++ fields,
       record {
         body = message_body gateway n time type fields small fits kind each (omega (arith, ap length are));
-        spells = is ∙ ap (λ b. print_fields header ++ b) (sym are) ∙ sym (print_fields-append header fields);
+        spells = rw (print_fields-append, are) is;
       },
     )
 
@@ -225,10 +196,9 @@ pub message_is : (gateway n time : ℕ) (type body bytes : List ℕ) (said : Sai
     → frame_of bytes ≡ message_text gateway n said
 unfolding message_text
 message_is gateway n time type body bytes said spells is =
-    ap frame_of (is ∙ ap (λ b. print_fields (header_fields gateway n type (time_text time)) ++ b) (sym spells.body_is)
-    ∙ sym (print_fields-append (header_fields gateway n type (time_text time)) said.body)
-    ∙ ap (λ k. print_fields (header_fields gateway n k (time_text time) ++ said.body)) (sym spells.kind)
-    ∙ ap (λ t. print_fields (header_fields gateway n said.kind t ++ said.body)) (sym spells.time_is))
+    let header = header_fields gateway n type (time_text time) in
+    ap frame_of (rw (spells.kind, spells.time_is) (is ∙ ap (λ b. print_fields header ++ b) (sym spells.body_is)
+    ∙ sym (print_fields-append header said.body)))
 
 -- it has at most 412 bytes
 pub message_length : (whole out : List ℕ) (upto end : ℕ) → upto ≤ 387 → upto ≤ length whole → end ≤ length out →

@@ -1,70 +1,45 @@
 -- A turn that hears: what it read or published, and what it handed on behind that.
-use Rattle.std.proofs.Common.{◌≡◌, ◌≢◌, ◌⊎◌, inl, inr, ℕ, nat_lt, ◌+◌, ◌<◌, ◌≤◌, ◌^◌, Bool, true, false}
-use Rattle.std.proofs.Common.{if◌then◌else◌, List, [], ◌∷◌, ◌++◌, length, refl, ap, sym, subst, ◌∙◌, arith}
+use Rattle.std.proofs.Common.{◌≡◌, ◌≢◌, ◌⊎◌, inl, inr, ℕ, nat_lt, ◌+◌, ◌<◌, Bool, true, false}
+use Rattle.std.proofs.Common.{List, [], ◌∷◌, ◌++◌, length, refl, ap, sym, ◌∙◌, arith}
 use Rattle.std.proofs.Common.{append-nil, append_assoc, Some, None}
-use Rattle.fix_orders.specs.Text.{Said}
-use Rattle.gateway.specs.declared.ending.Reason.{Reason}
+use Rattle.std.proofs.lemmas.List.{append_cancel_left}
 use Rattle.gateway.specs.declared.ending.Reason.TheVariants.{WireFailed, Exhausted}
 use Rattle.gateway.specs.declared.ending.Turned.{Turned}
 use Rattle.gateway.specs.declared.ending.Turned.TheVariants.{Worked, Quiet, Ended}
 use Rattle.gateway.specs.declared.gateway.Found.{Found}
 use Rattle.gateway.specs.declared.gateway.Found.TheVariants.{Something, Nothing, Failed}
-use Rattle.venue_model.specs.Counts.{Rose}
 use Rattle.wires.specs.Wires.{Told, grown}
 use Rattle.ring_words.specs.declared.view.Load.{Load}
-use Rattle.ring_words.specs.Places.{claim, marshalled}
-use Rattle.ring_words.specs.Seats.{load_of}
-use Rattle.gateway.specs.Ledgers.{Ledger, ledger_loading}
+use Rattle.gateway.specs.Ledgers.{Ledger, IsRefused, IsExhausted}
 use Rattle.gateway.specs.Standing.{Standing}
-use Rattle.gateway.specs.Turns.{World, place, world, Front, Moved, nothing_moved, Step, Takes, WasRefused, WasExhausted}
-use Rattle.gateway.specs.Turns.{FoundNone, ClosesBy, Silence, Hearing, IsQuiet, GoesOn, EndedBy, Means, CountsTurns}
+use Rattle.gateway.specs.Turns.{World, place, world, Front, Moved, nothing_moved, Step, Takes, WasExhausted}
+use Rattle.gateway.specs.Turns.{FoundNone, ClosesBy, Silence, Hearing, IsQuiet, GoesOn, Means, CountsTurns}
 use Rattle.gateway.specs.Turns.{Turn, HandlesOne}
 use Rattle.gateway.specs.TurnParts.{Hears, HeardSo, HandsOn, TookSo, Waits, Rests, RestsSo}
+use Rattle.gateway.proofs.Lists.{no_front}
 use Rattle.gateway.proofs.StepLemmas.{both, step-then, flush-step, handles-between}
 use Rattle.wires.specs.WireLaws.{grown-nil}
-use Rattle.gateway.proofs.FlushedTurns.{no_takes, no_front, wrote_some, wrote_none, over-attends, over-counts}
+use Rattle.gateway.proofs.FlushedTurns.{no_takes, wrote_some, wrote_none, over-attends, over-counts}
 
 -- nothing fed, read, written, published or handed on is nothing moved
 is_still : (m : Moved) → m.fed ≡ [] → m.got ≡ [] → m.put ≡ [] → m.messages ≡ [] → m.handed ≡ [] → m ≡ nothing_moved
 is_still m fed got put messages handed =
-    ap (λ x. record m { fed = x }) fed ∙ ap (λ x. record m { fed = []; got = x }) got
-    ∙ ap (λ x. record m { fed = []; got = []; put = x }) put
-    ∙ ap (λ x. record m { fed = []; got = []; put = []; messages = x }) messages
-    ∙ ap (λ x. record m { fed = []; got = []; put = []; messages = []; handed = x }) handed
+    λ i. record { fed = fed i; got = got i; put = put i; messages = messages i; handed = handed i }
 
 -- where something was heard, something moved
 hearing_moves : (old : World) (m : Moved) → Hearing old m → m ≢ nothing_moved
 hearing_moves old m (inl (free, fed)) same = fed (ap (λ (n : Moved). n.fed) same)
 hearing_moves old m (inr messages) same = messages (ap (λ (n : Moved). n.messages) same)
 
--- lists that go on alike from the same beginning, and the values of loads that stand first
-cancel_left : (xs ys zs : List Load) → xs ++ ys ≡ xs ++ zs → ys ≡ zs
-cancel_left [] ys zs e = e
-cancel_left (x ∷ xs) ys zs e = cancel_left xs ys zs cc
-
 first_value : (k l : Load) (ks ls : List Load) → k ∷ ks ≡ l ∷ ls → k.value ≡ l.value
 first_value k l ks ls e = let same : k ≡ l = cc in ap (λ (m : Load). m.value) same
 
--- a claim that was refused, and what was loaded behind it
-later-refused : (desk desk' desk'' : Ledger) (more : List Load) → desk''.loads ≡ desk'.loads ++ more
-    → WasRefused desk desk' → WasRefused desk desk''
-later-refused desk desk' desk'' more grown (ls, why, rest, loads) = (
-  ls,
-  why,
-  rest ++ more,
-  grown ∙ ap (λ x. x ++ more) loads ∙ append_assoc desk.loads (ls ++ rest) more
-      ∙ ap (λ x. desk.loads ++ x) (append_assoc ls rest more),
-)
-
-later-exhausted : (desk desk' desk'' : Ledger) (more : List Load) → desk''.loads ≡ desk'.loads ++ more
-    → WasExhausted desk desk' → WasExhausted desk desk''
-later-exhausted desk desk' desk'' more grown (ls, why, rest, loads) = (
-  ls,
-  why,
-  rest ++ more,
-  grown ∙ ap (λ x. x ++ more) loads ∙ append_assoc desk.loads (ls ++ rest) more
-      ∙ ap (λ x. desk.loads ++ x) (append_assoc ls rest more),
-)
+-- what the words loaded first show they show where more are loaded
+later : (P : List Load → Type 0) (first second third more : List Load) → third ≡ second ++ more
+    → (ls : List Load) × P ls × (rest : List Load) × (second ≡ first ++ (ls ++ rest))
+    → (ls : List Load) × P ls × (rest : List Load) × (third ≡ first ++ (ls ++ rest))
+later P first second third more grown (ls, why, rest, loads) =
+    (ls, why, rest ++ more, rw (grown, loads) (simp append_assoc))
 
 -- the held message is that of before the flush
 module _ (old h : Front) (session : Standing) (wire wire' wire'' : Told) (desk desk' : Ledger) (put : List ℕ)
@@ -73,75 +48,69 @@ module _ (old h : Front) (session : Standing) (wire wire' wire'' : Told) (desk d
     (session_is : session ≡ record old.session { outgoing = session.outgoing })
     (none : session.outgoing ≡ []) (tells : wire' ≡ record wire { took = grown wire.took put })
     (hears : Hears (world (record old { session = session; deaf = 0 }) wire' desk) (world h wire'' desk') answer) where
+  abbrev before : World
+  before = world old wire desk
+
+  abbrev flushed : World
+  flushed = world (record old { session = session; deaf = 0 }) wire' desk
+
+  abbrev behind : World
+  behind = world h wire'' desk'
+
   flush_step : Step (place old.session old.waiting wire desk) (place session old.waiting wire' desk)
       (record nothing_moved { put = put })
-  flush_step = flush-step old.session session old.waiting put wire wire' desk split session_is
-      (ap (λ (t : Told). t.gave) tells) (ap (λ (t : Told). t.took) tells)
+  flush_step = flush-step old.session session old.waiting put wire wire' desk split session_is (rw tells) (rw tells)
 
   abbrev heard-moved : Moved
   heard-moved = both (record nothing_moved { put = put }) hears.moved
 
   heard-step : Step (place old.session old.waiting wire desk) (place h.session h.waiting wire'' desk') heard-moved
-  heard-step = step-then old.session session h.session old.waiting old.waiting h.waiting wire wire' wire'' desk desk
-      desk'
-      (record nothing_moved { put = put }) hears.moved flush_step hears.step
+  heard-step = step-then _ _ _ _ _ flush_step hears.step
 
   -- a frame was handled in the part that hears, or none
   one_heard : (end : Standing) → end.accepted ≡ h.session.accepted → end.closing ≡ h.session.closing →
       HandlesOne old.session end
   one_heard end accepted closing = handles-between old.session session h.session end
-      (ap (λ (s : Standing). s.accepted) session_is) (ap (λ (s : Standing). s.closing) session_is) accepted closing
-      hears.one
+      (rw session_is) (rw session_is) accepted closing hears.one
 
   -- the message held was lost since no sequence was left
   lost_heard : h.session.closing ≡ Some Exhausted → (old.session.held ≢ None) × WasExhausted desk desk'
-  lost_heard is = let lost = hears.lost is in
-      ((λ none. lost.0 (ap (λ (s : Standing). s.held) session_is ∙ none)), lost.1)
+  lost_heard is = let lost = hears.lost is in ((λ free. lost.0 (rw session_is free)), lost.1)
 
   -- it was seen that no sequence was left: then the message held is lost, and the session closes
   heard_exhausts : (desk'' : Ledger) (more : List Load) → desk''.loads ≡ desk'.loads ++ more → old.session.held ≢ None
       → WasExhausted desk desk'' →
       h.session.closing ≡ Some Exhausted
   heard_exhausts desk'' more grown holds (ls, is, rest, loads) =
-      let tried = hears.tried (λ free. holds (sym (ap (λ (s : Standing). s.held) session_is) ∙ free)) in
-      let all : desk.loads ++ (hears.loaded ++ more) ≡ desk.loads ++ (ls ++ rest) =
-      sym (append_assoc desk.loads hears.loaded more) ∙ ap (λ l. l ++ more)
-      (sym (ap (λ (l : Ledger). l.loads) hears.ledger)) ∙ sym grown ∙ loads in
-      let same : load_of claim tried.0 ∷ (tried.1 ++ more) ≡ load_of claim (2 ^ 48) ∷ rest =
-      ap (λ l. l ++ more) (sym tried.2) ∙ cancel_left desk.loads (hears.loaded ++ more) (ls ++ rest) all
-      ∙ ap (λ l. l ++ rest) is in
-      tried.3 (first_value (load_of claim tried.0) (load_of claim (2 ^ 48)) (tried.1 ++ more) rest same)
+      let tried = hears.tried (λ free. holds (rw session_is at free)) in
+      let same : hears.loaded ++ more ≡ ls ++ rest = append_cancel_left desk.loads (hears.loaded ++ more) (ls ++ rest)
+      (sym (append_assoc desk.loads hears.loaded more) ∙ ap (λ l. l ++ more)
+      (sym (ap (λ (l : Ledger). l.loads) hears.ledger)) ∙ sym grown ∙ loads) in
+      tried.3 (first_value _ _ (tried.1 ++ more) rest (rw (tried.2, is) at same))
 
   -- the client's side closed in the read, or didn't
   heard_closes : ClosesBy old.closed h.closed wire.ends wire''.ends
-  heard_closes = subst (λ n. ClosesBy old.closed h.closed n wire''.ends) (ap (λ (t : Told). t.ends) tells) hears.closes
+  heard_closes = rw tells at hears.closes
 
   -- the wire failed in the read
-  pub turn-unheard : answer ≡ Failed → Turn (world old wire desk) (world (record h { live = false }) wire'' desk')
-      (Ended WireFailed)
-  turn-unheard failed =
-      let rose : Rose wire'.failures wire''.failures = subst
-      (λ (a : Found). HeardSo (world (record old { session = session; deaf = 0 }) wire' desk) (world h wire'' desk')
-      hears.moved a) failed hears.so in
-      record {
-        moved = heard-moved;
-        step = heard-step;
-        few = hears.few;
-        one = one_heard h.session refl refl;
-        takes = subst (λ (t : List Said). Takes h.session.logged_on old (record h { live = false }) desk desk' t)
-            (sym hears.unhanded)
-            (no_takes h.session.logged_on old (record h { live = false }) desk desk'
-            (ap (λ (l : Ledger). l.taken) hears.ledger) (ap (λ (f : Front). f.passed) hears.others));
-        means = (subst (λ n. Rose n wire''.failures) (ap (λ (t : Told). t.failures) tells) rose, refl);
-        counts = over-counts old (record h { live = false }) wire wire'' desk desk' heard-moved (Ended WireFailed) refl
-            (inl (ap (λ (f : Front). f.deaf) hears.others)) (ap (λ (f : Front). f.idle) hears.others)
-            (λ other. absurd (other refl)) (λ other. absurd (other refl));
-        attends = over-attends old (record h { live = false }) wire wire'' desk desk' heard-moved refl;
-        closes = heard_closes;
-        fails = λ more. refl;
-        exhausts = λ holds none. heard_exhausts desk' [] (sym (append-nil desk'.loads)) holds none;
-        lost = λ is_open is. lost_heard is;
-      }
+  pub turn-unheard : answer ≡ Failed → Turn before (world (record h { live = false }) wire'' desk') (Ended WireFailed)
+  turn-unheard failed = record {
+    moved = heard-moved;
+    step = heard-step;
+    few = hears.few;
+    one = one_heard h.session refl refl;
+    takes = rw hears.unhanded (no_takes h.session.logged_on old (record h { live = false }) desk desk'
+        (ap (λ (l : Ledger). l.taken) hears.ledger) (ap (λ (f : Front). f.passed) hears.others));
+    means = (rw (failed, tells) at hears.so, refl);
+    counts = over-counts before (world (record h { live = false }) wire'' desk') heard-moved (Ended WireFailed) refl
+        (inl (ap (λ (f : Front). f.deaf) hears.others)) (ap (λ (f : Front). f.idle) hears.others)
+        (λ other. absurd (other refl)) (λ other. absurd (other refl));
+    attends = over-attends before (world (record h { live = false }) wire'' desk') heard-moved refl;
+    closes = heard_closes;
+    fails = λ more. refl;
+    exhausts = λ holds none. heard_exhausts desk' [] (sym (append-nil desk'.loads)) holds none;
+    lost = λ is_open is. lost_heard is;
+  }
 
   -- all was written, and an output was looked for
   module _ (desk'' : Ledger) (t : Front) (took : Bool) (hands : HandsOn h t desk' desk'' took) where
@@ -162,317 +131,212 @@ module _ (old h : Front) (session : Standing) (wire wire' wire'' : Told) (desk d
     }
 
     all-step : Step (place old.session old.waiting wire desk) (place t.session t.waiting wire'' desk'') all-moved
-    all-step = step-then old.session h.session t.session old.waiting h.waiting t.waiting wire wire'' wire'' desk desk'
-        desk''
-        heard-moved given-moved heard-step hand-step
+    all-step = step-then _ _ _ _ _ heard-step hand-step
 
     all-takes : Takes t.session.logged_on old t desk desk'' all-moved.handed
-    all-takes =
-        let handed_is : all-moved.handed ≡ hands.handed = ap (λ x. x ++ hands.handed) hears.unhanded in
-        let passed : h.passed ≡ old.passed = ap (λ (f : Front). f.passed) hears.others in
-        subst (λ (x : List Said). Takes t.session.logged_on old t desk desk'' x) (sym handed_is) (record {
-          these = hands.takes.these;
-          taken = hands.takes.taken ∙ ap (λ x. x ++ hands.takes.these) (ap (λ (l : Ledger). l.taken) hears.ledger);
-          given = hands.takes.given;
-          passed = hands.takes.passed ∙ ap (λ n. n + (if t.session.logged_on then 0 else length hands.takes.these))
-              passed;
-        })
+    all-takes = rw hears.unhanded (record {
+      these = hands.takes.these;
+      taken = rw (hands.takes.taken, hears.ledger);
+      given = hands.takes.given;
+      passed = rw (hands.takes.passed, hears.others);
+    })
 
     count_same : desk'.count ≡ desk.count
     count_same = ap (λ (l : Ledger). l.count) hears.ledger
 
-    -- if nothing moved in all, nothing was heard
-    unheard_all : all-moved ≡ nothing_moved → hears.moved ≡ nothing_moved
-    unheard_all same =
-        let fed : hears.moved.fed ≡ [] = sym (append-nil hears.moved.fed) ∙ ap (λ (m : Moved). m.fed) same in
-        let got : hears.moved.got ≡ [] = sym (append-nil hears.moved.got) ∙ ap (λ (m : Moved). m.got) same in
-        let messages : hears.moved.messages ≡ [] = sym (append-nil hears.moved.messages)
-        ∙ ap (λ (m : Moved). m.messages) same in
-        is_still hears.moved fed got hears.unwritten messages hears.unhanded
+    loaded_more : desk''.loads ≡ desk'.loads ++ hands.loaded
+    loaded_more = ap (λ (l : Ledger). l.loads) hands.ledger
 
-    -- and nothing was written
+    -- if nothing moved in all, nothing was heard, and nothing written
+    unheard_all : all-moved ≡ nothing_moved → hears.moved ≡ nothing_moved
+    unheard_all same = is_still hears.moved (rw append-nil at (ap (λ (m : Moved). m.fed) same))
+        (rw append-nil at (ap (λ (m : Moved). m.got) same)) hears.unwritten
+        (rw append-nil at (ap (λ (m : Moved). m.messages) same)) hears.unhanded
+
     unwritten_all : all-moved ≡ nothing_moved → put ≡ []
-    unwritten_all same = no_front put hears.moved.put
-        (sym (append-nil (put ++ hears.moved.put)) ∙ ap (λ (m : Moved). m.put) same)
+    unwritten_all same = no_front put hears.moved.put (rw append-nil at (ap (λ (m : Moved). m.put) same))
 
     -- nothing was written, heard or handed on
     still_all : put ≡ [] → hears.moved ≡ nothing_moved → hands.handed ≡ [] → all-moved ≡ nothing_moved
-    still_all written heard handed =
-        ap (λ p. both (both (record nothing_moved { put = p }) hears.moved) given-moved) written
-        ∙ ap (λ m. both (both nothing_moved m) given-moved) heard
-        ∙ ap (λ x. both (both nothing_moved nothing_moved) (record nothing_moved { handed = x })) handed
+    still_all written heard handed = rw (written, heard, handed)
 
     -- where none was found, that is why
-    found : (hands.handed ≡ []) × (t ≡ h) × (desk''.count ≡ desk'.count)
-        × (h.session.closing ≡ None → desk'' ≡ ledger_loading desk' (load_of marshalled desk'.count ∷ [])) →
-        t.session.closing ≡ None → FoundNone desk desk''
+    found : TookSo h t desk' desk'' hands.handed false → t.session.closing ≡ None → FoundNone desk desk''
     found (handed, stays, uncounted, looked) is_open =
-        let at_end = looked (sym (ap (λ (f : Front). f.session.closing) stays) ∙ is_open) in (
-          hears.loaded,
-          ap (λ (l : Ledger). l.loads) at_end
-              ∙ ap (λ ls. ls ++ load_of marshalled desk'.count ∷ []) (ap (λ (l : Ledger). l.loads) hears.ledger)
-              ∙ append_assoc desk.loads hears.loaded (load_of marshalled desk'.count ∷ [])
-              ∙ ap (λ n. desk.loads ++ (hears.loaded ++ load_of marshalled n ∷ []))
-              (sym (ap (λ (l : Ledger). l.count) at_end)),
-        )
+        let at_end = looked (rw stays at is_open) in
+        (hears.loaded, rw (at_end, hears.ledger) (append_assoc desk.loads hears.loaded _))
 
     -- what was heard, in the whole turn
-    hearing_all : Hearing (world (record old { session = session; deaf = 0 }) wire' desk) hears.moved
-        → Hearing (world old wire desk) all-moved
-    hearing_all (inl (free, fed)) =
-        inl (
-          sym (ap (λ (s : Standing). s.held) session_is) ∙ free,
-          λ none. fed (sym (append-nil hears.moved.fed) ∙ none),
-        )
-    hearing_all (inr messages) = inr (λ none. messages (sym (append-nil hears.moved.messages) ∙ none))
+    hearing_all : Hearing flushed hears.moved → Hearing before all-moved
+    hearing_all (inl (free, fed)) = inl (rw session_is at free, λ unfed. fed (rw append-nil at unfed))
+    hearing_all (inr messages) = inr (λ unsent. messages (rw append-nil at unsent))
 
     -- why nothing was heard, in the whole turn
-    silent_all : (end : Front) → end.waiting ≡ t.waiting → end.closed ≡ t.closed →
-        ((old.session.held ≢ None) × WasRefused desk desk')
-        ⊎ ((old.session.held ≡ None) × (h.waiting ≡ [])
-        × (Rose wire.empty_reads wire''.empty_reads ⊎ (h.closed ≡ true))) →
-        Silence (world old wire desk) (world end wire'' desk'')
-    silent_all end waiting_end closed_end (inl (held, refused)) =
-        inl (held, later-refused desk desk' desk'' hands.loaded (ap (λ (l : Ledger). l.loads) hands.ledger) refused)
-    silent_all end waiting_end closed_end (inr (free, fed, why)) = inr (
-      free,
-      waiting_end ∙ ap (λ (f : Front). f.waiting) hands.others ∙ fed,
-      elim why [
-        | inl rose ↦ inl rose
-        | inr closed ↦
-            inr (closed_end ∙ ap (λ (f : Front). f.closed) hands.others ∙ closed)
-      ],
-    )
+    silent_all : (end : Front) → end ≡ record t { idle = end.idle; live = end.live } → Silence before behind
+        → Silence before (world end wire'' desk'')
+    silent_all end end_is (inl (held, refused)) =
+        inl (held, later (λ ls. IsRefused desk.rows desk.loads ls ⊎ IsExhausted ls) _ _ _ _ loaded_more refused)
+    silent_all end end_is (inr (free, fed, why)) =
+        inr (free, rw (end_is, hands.others) fed, rw (end_is, hands.others) why)
 
-    quiet-all : (end : Front) → put ≡ [] → hears.moved ≡ nothing_moved
-        → (hands.handed ≡ []) × (t ≡ h) × (desk''.count ≡ desk'.count)
-        × (h.session.closing ≡ None → desk'' ≡ ledger_loading desk' (load_of marshalled desk'.count ∷ [])) →
-        (((old.session.held ≢ None) × WasRefused desk desk')
-        ⊎ ((old.session.held ≡ None) × (h.waiting ≡ [])
-        × (Rose wire.empty_reads wire''.empty_reads ⊎ (h.closed ≡ true)))) →
-        end.session ≡ t.session → end.waiting ≡ t.waiting → end.closed ≡ t.closed →
-        IsQuiet (world old wire desk) (world end wire'' desk'') all-moved
-    quiet-all end written heard (handed, stays, uncounted, looked) silence session_end waiting_end closed_end = record {
-      still = still_all written heard handed;
-      stuck = λ stood. absurd (stood (split ∙ ap (λ p. p ++ session.outgoing) written ∙ none));
-      unheard = λ silent. silent_all end waiting_end closed_end silence;
-      untaken = uncounted ∙ count_same;
-      unhanded = λ silent is_open.
-          found (handed, stays, uncounted, looked) (sym (ap (λ (s : Standing). s.closing) session_end) ∙ is_open);
+    quiet-all : (end : Front) → put ≡ [] → hears.moved ≡ nothing_moved → TookSo h t desk' desk'' hands.handed false
+        → Silence before behind → end ≡ record t { idle = end.idle; live = end.live }
+        → IsQuiet before (world end wire'' desk'') all-moved
+    quiet-all end written heard untaken silence end_is = record {
+      still = still_all written heard untaken.0;
+      stuck = λ stood. absurd (stood (rw (split, written) none));
+      unheard = λ silent. silent_all end end_is silence;
+      untaken = untaken.2 ∙ count_same;
+      unhanded = λ silent is_open. found untaken (rw end_is at is_open);
     }
 
     -- what was heard, if it wasn't something and the wire didn't fail
-    heard-nothing : (a : Found) → a ≢ Something → a ≢ Failed
-        → HeardSo (world (record old { session = session; deaf = 0 }) wire' desk) (world h wire'' desk') hears.moved a →
-        (hears.moved ≡ nothing_moved) × (((old.session.held ≢ None) × WasRefused desk desk')
-        ⊎ ((old.session.held ≡ None) × (h.waiting ≡ [])
-        × (Rose wire.empty_reads wire''.empty_reads ⊎ (h.closed ≡ true))))
+    heard-nothing : (a : Found) → a ≢ Something → a ≢ Failed → HeardSo flushed behind hears.moved a
+        → (hears.moved ≡ nothing_moved) × Silence before behind
     heard-nothing Something other alive so = absurd (other refl)
     heard-nothing Failed other alive so = absurd (alive refl)
-    heard-nothing Nothing other alive (still, inl (held, rose)) =
-        (still, inl ((λ free. held (ap (λ (s : Standing). s.held) session_is ∙ free)), rose))
-    heard-nothing Nothing other alive (still, inr (free, fed, inl rose)) = (
-      still,
-      inr (
-        sym (ap (λ (s : Standing). s.held) session_is) ∙ free,
-        fed,
-        inl (subst (λ n. Rose n wire''.empty_reads) (ap (λ (w : Told). w.empty_reads) tells) rose),
-      ),
-    )
-    heard-nothing Nothing other alive (still, inr (free, fed, inr closed)) =
-        (still, inr (sym (ap (λ (s : Standing). s.held) session_is) ∙ free, fed, inr closed))
+    heard-nothing Nothing other alive so = rw (session_is, tells) at so
 
     -- nothing was written in all, if nothing was flushed
     unput_all : put ≡ [] → all-moved.put ≡ []
-    unput_all written = append-nil (put ++ hears.moved.put) ∙ ap (λ p. p ++ hears.moved.put) written ∙ hears.unwritten
+    unput_all written = rw (append-nil, written) hears.unwritten
 
-    -- the first count begins again in a turn that wrote all
-    end_deaf : (end : Front) → end ≡ record t { idle = end.idle; live = end.live } → end.deaf ≡ 0
-    end_deaf end end_is = ap (λ (f : Front). f.deaf) end_is ∙ ap (λ (f : Front). f.deaf) hands.others
-        ∙ ap (λ (f : Front). f.deaf) hears.others
+    -- the counts that the part that hands on leaves
+    deaf_is : t.deaf ≡ 0
+    deaf_is = ap (λ (f : Front). f.deaf) hands.others ∙ ap (λ (f : Front). f.deaf) hears.others
+
+    idle_is : t.idle ≡ old.idle
+    idle_is = ap (λ (f : Front). f.idle) hands.others ∙ ap (λ (f : Front). f.idle) hears.others
 
     -- what was put in all is what stood to be written
     put_all : all-moved.put ≡ old.session.outgoing
-    put_all = append-nil (put ++ hears.moved.put) ∙ ap (λ p. put ++ p) hears.unwritten ∙ ap (λ p. put ++ p) (sym none)
-        ∙ sym split
+    put_all = rw (append-nil, hears.unwritten, split, none)
 
-    -- where nothing stood to be written nothing was
-    silent_put : old.session.outgoing ≡ [] → put ≡ []
-    silent_put silent = no_front put session.outgoing (sym split ∙ silent)
+    -- an output was looked for: it was taken or passed over, or there was none
+    took_so : (b : Bool) → took ≡ b → TookSo h t desk' desk'' hands.handed b
+    took_so b took_is = rw took_is at hands.so
 
-    -- the second count rises
-    idle_rises : (end : Front) (wrote : Bool) (b : Bool) → took ≡ b
-        → wrote ≡ nat_lt (length session.outgoing) (length old.session.outgoing) →
-        end ≡ record t { idle = end.idle; live = end.live } → Waits t end wrote b → end.closed ≡ true
-        → end.session.closing ≡ None →
-        old.session.outgoing ≡ [] → desk''.count ≡ desk.count → end.idle ≡ old.idle + 1
-    idle_rises end true b took_is wrote_is end_is waits closed is_open silent same =
-        absurd (wrote_some old.session.outgoing put session.outgoing split (sym wrote_is) (silent_put silent))
-    idle_rises end false true took_is wrote_is end_is waits closed is_open silent same =
-        let more = subst (λ n. n < desk''.count) count_same
-        (subst (λ (b : Bool). TookSo h t desk' desk'' hands.handed b) took_is hands.so) in
-        absurd (omega (arith, more, same))
-    idle_rises end false false took_is wrote_is end_is (inl (stays, never)) closed is_open silent same =
-        absurd (never (sym (ap (λ (f : Front). f.closed) end_is) ∙ closed)
-        (sym (ap (λ (f : Front). f.session.closing) end_is) ∙ is_open))
-    idle_rises end false false took_is wrote_is end_is (inr (more, closed_is, open_is)) closed is_open silent same =
-        more ∙ ap (λ n. n + 1) (ap (λ (f : Front). f.idle) hands.others ∙ ap (λ (f : Front). f.idle) hears.others)
+    took_more : took ≡ true → desk.count < desk''.count
+    took_more took_is = rw count_same at (took_so true took_is)
 
-    -- the counts of a turn that wrote all
-    all-counts : (end : Front) (wrote : Bool) (b : Bool) (turned : Turned) → took ≡ b
-        → wrote ≡ nat_lt (length session.outgoing) (length old.session.outgoing) →
-        end ≡ record t { idle = end.idle; live = end.live } → Waits t end wrote b
-        → CountsTurns (world old wire desk) (world end wire'' desk'') all-moved turned
-    all-counts end true b turned took_is wrote_is end_is waits = record {
-      deaf = inl (end_deaf end end_is);
-      idle = inl waits;
-      deaf_rises = λ other stood unput. absurd (stood (sym put_all ∙ unput));
-      idle_rises = λ other. idle_rises end true b took_is wrote_is end_is waits;
-      wrote = λ live some. end_deaf end end_is;
-      wrote_all = λ live some all. waits;
-      took = λ live more. waits;
-      stuck = λ left. absurd (left put_all);
-    }
-    all-counts end false true turned took_is wrote_is end_is waits = record {
-      deaf = inl (end_deaf end end_is);
-      idle = inl waits;
-      deaf_rises = λ other stood unput. absurd (stood (sym put_all ∙ unput));
-      idle_rises = λ other. idle_rises end false true took_is wrote_is end_is waits;
-      wrote = λ live some. end_deaf end end_is;
-      wrote_all = λ live some all. waits;
-      took = λ live more. waits;
-      stuck = λ left. absurd (left put_all);
-    }
-    all-counts end false false turned took_is wrote_is end_is waits =
-        let none = unput_all (wrote_none old.session.outgoing put session.outgoing split (sym wrote_is)) in
-        let nothing = subst (λ (b : Bool). TookSo h t desk' desk'' hands.handed b) took_is hands.so in record {
-          deaf = inl (end_deaf end end_is);
-          idle = elim waits [
-            | inl (same, never) ↦ inr (inl
-                (same ∙ ap (λ (f : Front). f.idle) hands.others ∙ ap (λ (f : Front). f.idle) hears.others))
-            | inr (more, closed, is_open) ↦ inr (inr (
-              more ∙ ap (λ n. n + 1) (ap (λ (f : Front). f.idle) hands.others
-                  ∙ ap (λ (f : Front). f.idle) hears.others),
-              ap (λ (f : Front). f.closed) end_is ∙ closed,
-              none,
-              found nothing is_open,
-            ))
-          ];
-          deaf_rises = λ other stood unput. absurd (stood (sym put_all ∙ unput));
-          idle_rises = λ other. idle_rises end false false took_is wrote_is end_is waits;
-          wrote = λ live some. end_deaf end end_is;
-          wrote_all = λ live some all. absurd (some none);
-          took = λ live more. let same = nothing.2 in absurd (omega (arith, more, same, count_same));
-          stuck = λ left. absurd (left put_all);
-        }
+    module _ (end : Front) (wrote : Bool)
+        (wrote_is : wrote ≡ nat_lt (length session.outgoing) (length old.session.outgoing))
+        (end_is : end ≡ record t { idle = end.idle; live = end.live }) where
+      abbrev after : World
+      after = world end wire'' desk''
 
-    -- a turn that went on behind its writes listened
-    all-listens : (end : Front) (a : Found) → a ≢ Failed → HeardSo
-        (world (record old { session = session; deaf = 0 }) wire' desk) (world h wire'' desk') hears.moved a →
-        end.waiting ≡ t.waiting → end.closed ≡ t.closed → Hearing (world old wire desk) all-moved
-        ⊎ Silence (world old wire desk) (world end wire'' desk'')
-    all-listens end Something alive so waiting_end closed_end = inl (hearing_all so)
-    all-listens end Nothing alive so waiting_end closed_end =
-        inr (silent_all end waiting_end closed_end (heard-nothing Nothing (λ is. cc) alive so).1)
-    all-listens end Failed alive so waiting_end closed_end = absurd (alive refl)
+      some_written : wrote ≡ true → put ≢ []
+      some_written is = wrote_some old.session.outgoing put session.outgoing split (sym wrote_is ∙ is)
 
-    -- and looked for an output
-    all-looks : (end : Front) (b : Bool) → TookSo h t desk' desk'' hands.handed b → t.session.closing ≡ None →
-        (desk.count < desk''.count) ⊎ FoundNone desk desk''
-    all-looks end true so is_open = inl (subst (λ n. n < desk''.count) count_same so)
-    all-looks end false so is_open = inr (found so is_open)
+      none_written : wrote ≡ false → put ≡ []
+      none_written is = wrote_none old.session.outgoing put session.outgoing split (sym wrote_is ∙ is)
 
-    -- the client's side, and the failures of the wire, are as the part that hears left them
-    all_closes : (end : Front) → end.closed ≡ t.closed → ClosesBy old.closed end.closed wire.ends wire''.ends
-    all_closes end closed_end =
-        subst (λ (c : Bool). ClosesBy old.closed c wire.ends wire''.ends)
-        (sym (closed_end ∙ ap (λ (f : Front). f.closed) hands.others)) heard_closes
+      end_deaf : end.deaf ≡ 0
+      end_deaf = rw end_is deaf_is
 
-    goes-on : (end : Front) → end.live ≡ true → old.session.closing ≡ None → GoesOn old end
-    goes-on end live is_open = record { live = live; unsaid = λ closes. absurd (closes is_open) }
+      -- the second count rises
+      idle_rises : (w b : Bool) → wrote ≡ w → took ≡ b → Waits t end w b → end.closed ≡ true
+          → end.session.closing ≡ None → old.session.outgoing ≡ [] → desk''.count ≡ desk.count
+          → end.idle ≡ old.idle + 1
+      idle_rises true b is took_is waits closed is_open silent same =
+          absurd (some_written is (no_front put session.outgoing (sym split ∙ silent)))
+      idle_rises false true is took_is waits closed is_open silent same =
+          let more = took_more took_is in absurd (omega (arith, more, same))
+      idle_rises false false is took_is (inl (stays, never)) closed is_open silent same =
+          absurd (never (rw end_is at closed) (rw end_is at is_open))
+      idle_rises false false is took_is (inr (more, closed_is, open_is)) closed is_open silent same = rw idle_is at more
 
-    all-means : (end : Front) (wrote : Bool) (turned : Turned) →
-        wrote ≡ nat_lt (length session.outgoing) (length old.session.outgoing) → answer ≢ Failed → t.live ≡ true
-        → old.session.closing ≡ None →
-        end ≡ record t { idle = end.idle; live = end.live } → RestsSo t end wrote answer took turned →
-        Means (world old wire desk) (world end wire'' desk'') all-moved turned
-    all-means end wrote Worked wrote_is alive live is_open end_is (same, inl did) = (
-      inl (λ still. wrote_some old.session.outgoing put session.outgoing split (sym wrote_is ∙ did)
-          (unwritten_all still)),
-      goes-on end (same ∙ live) is_open,
-    )
-    all-means end wrote Worked wrote_is alive live is_open end_is (same, inr (inl did)) = (
-      inr (subst (λ n. n < desk''.count) count_same
-          (subst (λ (b : Bool). TookSo h t desk' desk'' hands.handed b) did hands.so)),
-      goes-on end (same ∙ live) is_open,
-    )
-    all-means end wrote Worked wrote_is alive live is_open end_is (same, inr (inr did)) = (
-      inl (λ still. hearing_moves (world (record old { session = session; deaf = 0 }) wire' desk) hears.moved
-          (subst (λ (a : Found). HeardSo (world (record old { session = session; deaf = 0 }) wire' desk)
-          (world h wire'' desk') hears.moved a) did hears.so) (unheard_all still)),
-      goes-on end (same ∙ live) is_open,
-    )
-    all-means end wrote Quiet wrote_is alive live is_open end_is (same, no_bytes, no_output, no_news) =
-        let silent = heard-nothing answer no_news alive hears.so in (
-          quiet-all end (wrote_none old.session.outgoing put session.outgoing split (sym wrote_is ∙ no_bytes)) silent.0
-              (subst (λ (b : Bool). TookSo h t desk' desk'' hands.handed b) no_output hands.so) silent.1
-              (ap (λ (f : Front). f.session) end_is) (ap (λ (f : Front). f.waiting) end_is)
-              (ap (λ (f : Front). f.closed) end_is),
-          goes-on end (same ∙ live) is_open,
-        )
-    all-means end wrote (Ended reason) wrote_is alive live is_open end_is (same, why, closed, last, before) = (
-      subst (λ (r : Reason). EndedBy (world old wire desk) (world end wire'' desk'') r) (sym why) (
-        ap (λ (f : Front). f.closed) end_is ∙ closed,
-        last,
-        sym (ap (λ (f : Front). f.idle) hands.others ∙ ap (λ (f : Front). f.idle) hears.others) ∙ before,
-      ),
-      same,
-    )
+      -- the counts of a turn that wrote all; where it wrote or took something, the second begins again
+      counts_again : (w b : Bool) (turned : Turned) → wrote ≡ w → took ≡ b → Waits t end w b → end.idle ≡ 0
+          → CountsTurns before after all-moved turned
+      counts_again w b turned is took_is waits again = record {
+        deaf = inl end_deaf;
+        idle = inl again;
+        deaf_rises = λ other stood unput. absurd (stood (sym put_all ∙ unput));
+        idle_rises = λ other. idle_rises w b is took_is waits;
+        wrote = λ live some. end_deaf;
+        wrote_all = λ live some all. again;
+        took = λ live more. again;
+        stuck = λ left. absurd (left put_all);
+      }
+
+      all-counts : (w b : Bool) (turned : Turned) → wrote ≡ w → took ≡ b → Waits t end w b
+          → CountsTurns before after all-moved turned
+      all-counts true b turned is took_is waits = counts_again true b turned is took_is waits waits
+      all-counts false true turned is took_is waits = counts_again false true turned is took_is waits waits
+      all-counts false false turned is took_is waits =
+          let unput = unput_all (none_written is) in let untaken = took_so false took_is in record {
+            deaf = inl end_deaf;
+            idle = elim waits [
+              | inl (same, never) ↦ inr (inl (same ∙ idle_is))
+              | inr (more, closed, is_open) ↦
+                  inr (inr (rw idle_is at more, rw end_is closed, unput, found untaken is_open))
+            ];
+            deaf_rises = λ other stood none_put. absurd (stood (sym put_all ∙ none_put));
+            idle_rises = λ other. idle_rises false false is took_is waits;
+            wrote = λ live some. end_deaf;
+            wrote_all = λ live some all. absurd (some unput);
+            took = λ live more. let same = untaken.2 in absurd (omega (arith, more, same, count_same));
+            stuck = λ left. absurd (left put_all);
+          }
+
+      -- a turn that went on behind its writes listened
+      all-listens : (a : Found) → a ≢ Failed → HeardSo flushed behind hears.moved a
+          → Hearing before all-moved ⊎ Silence before after
+      all-listens Something alive so = inl (hearing_all so)
+      all-listens Nothing alive so = inr (silent_all end end_is (heard-nothing Nothing (λ is. cc) alive so).1)
+      all-listens Failed alive so = absurd (alive refl)
+
+      -- and looked for an output
+      looks : (b : Bool) → took ≡ b → end.session.closing ≡ None → (desk.count < desk''.count) ⊎ FoundNone desk desk''
+      looks true took_is is_open = inl (took_more took_is)
+      looks false took_is is_open = inr (found (took_so false took_is) (rw end_is at is_open))
+
+      module _ (alive : answer ≢ Failed) (live : t.live ≡ true) (is_open : old.session.closing ≡ None) where
+        goes-on : end.live ≡ t.live → GoesOn old end
+        goes-on same = record { live = same ∙ live; unsaid = λ closes. absurd (closes is_open) }
+
+        all-means : (turned : Turned) → RestsSo t end wrote answer took turned → Means before after all-moved turned
+        all-means Worked (same, inl did) = (inl (λ still. some_written did (unwritten_all still)), goes-on same)
+        all-means Worked (same, inr (inl did)) = (inr (took_more did), goes-on same)
+        all-means Worked (same, inr (inr did)) =
+            (inl (λ still. hearing_moves flushed hears.moved (rw did at hears.so) (unheard_all still)), goes-on same)
+        all-means Quiet (same, no_bytes, no_output, no_news) =
+            let silent = heard-nothing answer no_news alive hears.so in
+            (quiet-all end (none_written no_bytes) silent.0 (took_so false no_output) silent.1 end_is, goes-on same)
+        all-means (Ended reason) (same, why, closed, last, before_last) =
+            (rw why (rw end_is closed, last, rw idle_is at before_last), same)
 
     pub turn-rested : (end : Front) (wrote : Bool) (turned : Turned) →
         wrote ≡ nat_lt (length session.outgoing) (length old.session.outgoing) → answer ≢ Failed → old.live ≡ true
         → session.closing ≡ None →
-        Rests t end wrote answer took turned → Turn (world old wire desk) (world end wire'' desk'') turned
+        Rests t end wrote answer took turned → Turn before (world end wire'' desk'') turned
     turn-rested end wrote turned wrote_is alive live is_open rests =
-        let session_end = ap (λ (f : Front). f.session) rests.others in
+        let end_is = rests.others in
         let t_live : t.live ≡ true = ap (λ (f : Front). f.live) hands.others ∙ ap (λ (f : Front). f.live) hears.others
         ∙ live in
         record {
           moved = all-moved;
-          step = subst (λ (s : Standing). Step (place old.session old.waiting wire desk)
-              (place s end.waiting wire'' desk'') all-moved) (sym session_end)
-              (subst (λ w. Step (place old.session old.waiting wire desk) (place t.session w wire'' desk'') all-moved)
-              (sym (ap (λ (f : Front). f.waiting) rests.others)) all-step);
-          few = subst (λ got. length got ≤ 512) (sym (append-nil hears.moved.got)) hears.few;
-          one = one_heard end.session
-              (ap (λ (s : Standing). s.accepted) session_end ∙ hands.accepted)
-              (ap (λ (s : Standing). s.closing) session_end ∙ hands.closing);
-          takes = subst (λ (s : Standing). Takes s.logged_on old end desk desk'' all-moved.handed) (sym session_end)
-              (record {
-                these = all-takes.these;
-                taken = all-takes.taken;
-                given = all-takes.given;
-                passed = ap (λ (f : Front). f.passed) rests.others ∙ all-takes.passed;
-              });
-          means = all-means end wrote turned wrote_is alive t_live
-              (sym (ap (λ (s : Standing). s.closing) session_is) ∙ is_open) rests.others rests.so;
-          counts = all-counts end wrote took turned refl wrote_is rests.others rests.waits;
+          step = rw end_is all-step;
+          few = rw append-nil hears.few;
+          one = one_heard end.session (rw end_is hands.accepted) (rw end_is hands.closing);
+          takes = rw end_is (record {
+            these = all-takes.these;
+            taken = all-takes.taken;
+            given = all-takes.given;
+            passed = all-takes.passed;
+          });
+          means = all-means end wrote wrote_is end_is alive t_live (rw session_is at is_open) turned rests.so;
+          counts = all-counts end wrote wrote_is end_is wrote took turned refl refl rests.waits;
           attends = record {
             writes = λ lives. inl put_all;
-            listens = λ lives all. all-listens end answer alive hears.so (ap (λ (f : Front). f.waiting) rests.others)
-                (ap (λ (f : Front). f.closed) rests.others);
-            looks = λ lives all still_open. all-looks end took hands.so
-                (sym (ap (λ (s : Standing). s.closing) session_end) ∙ still_open);
+            listens = λ lives all. all-listens end wrote wrote_is end_is answer alive hears.so;
+            looks = λ lives all still_open. looks end wrote wrote_is end_is took refl still_open;
           };
-          closes = all_closes end (ap (λ (f : Front). f.closed) rests.others);
+          closes = rw (end_is, hands.others) heard_closes;
           fails = λ more. absurd (more (hears.alive alive ∙ ap (λ (t : Told). t.failures) tells));
           exhausts = λ holds seen.
-              ap (λ (s : Standing). s.closing) session_end ∙ hands.closing
-              ∙ heard_exhausts desk'' hands.loaded (ap (λ (l : Ledger). l.loads) hands.ledger) holds seen;
-          lost = λ open_before is.
-              let lost = lost_heard (sym hands.closing ∙ sym (ap (λ (s : Standing). s.closing) session_end) ∙ is) in (
-                lost.0,
-                later-exhausted desk desk' desk'' hands.loaded (ap (λ (l : Ledger). l.loads) hands.ledger)
-                    lost.1,
-              );
+              rw end_is (hands.closing ∙ heard_exhausts desk'' hands.loaded loaded_more holds seen);
+          lost = λ open_before is. let lost = lost_heard (sym hands.closing ∙ (rw end_is at is)) in
+              (lost.0, later IsExhausted _ _ _ _ loaded_more lost.1);
         }

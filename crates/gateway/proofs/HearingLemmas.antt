@@ -1,28 +1,16 @@
--- What a frame's header decides.
-use Rattle.std.proofs.Common.{◌≡◌, ℕ, List, Some, None, ap}
+-- What a frame's header decides, or that there is no right one.
+use Rattle.std.proofs.Common.{◌≡◌, ℕ, List, Option, ap}
 use Rattle.fix_frame.specs.Grammar.{Field}
 use Rattle.fix_orders.specs.Header.{Header, header_of}
-use Rattle.gateway.specs.declared.refusal.Refusal.TheVariants.{BadHeader}
-use Rattle.gateway.specs.Verdict.{Refuse, header_verdict, verdict, verdict_by}
+use Rattle.gateway.specs.Verdict.{verdict, verdict_by}
 use Rattle.gateway.specs.Answers.{time_after, time_by}
 
--- a frame without a right header
-pub verdict_bad : (gateway accepted : ℕ) (fields : List Field) → header_of fields ≡ None →
-    verdict gateway accepted fields ≡ Refuse BadHeader
+pub verdict_is : (gateway accepted : ℕ) (fields : List Field) (h : Option Header) → header_of fields ≡ h →
+    verdict gateway accepted fields ≡ verdict_by gateway accepted h
 unfolding verdict
-verdict_bad gateway accepted fields bad = ap (verdict_by gateway accepted) bad
+verdict_is gateway accepted fields h is = ap (verdict_by gateway accepted) is
 
-pub time_bad : (last : List ℕ) (fields : List Field) → header_of fields ≡ None → time_after last fields ≡ last
+pub time_is : (last : List ℕ) (fields : List Field) (h : Option Header) → header_of fields ≡ h
+    → time_after last fields ≡ time_by last h
 unfolding time_after
-time_bad last fields bad = ap (time_by last) bad
-
--- a frame with one
-pub verdict_right : (gateway accepted : ℕ) (fields : List Field) (h : Header) → header_of fields ≡ Some h →
-    verdict gateway accepted fields ≡ header_verdict gateway accepted h
-unfolding verdict
-verdict_right gateway accepted fields h right = ap (verdict_by gateway accepted) right
-
-pub time_right : (last : List ℕ) (fields : List Field) (h : Header) → header_of fields ≡ Some h
-    → time_after last fields ≡ h.time
-unfolding time_after
-time_right last fields h right = ap (time_by last) right
+time_is last fields h is = ap (time_by last) is

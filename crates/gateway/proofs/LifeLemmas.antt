@@ -1,6 +1,6 @@
 -- What an acceptor's turns and its clients come to: its life so far, part by part.
 use Rattle.std.proofs.Common.{◌≡◌, ℕ, false, List, [], ◌∷◌, ◌++◌}
-use Rattle.std.proofs.Common.{length, map, take, drop, refl, ap, sym, subst, ◌∙◌, arith, append-nil}
+use Rattle.std.proofs.Common.{length, take, drop, refl, ap, sym, arith, append-nil}
 use Rattle.std.proofs.Common.{Option, Some, None}
 use Rattle.std.specs.List.{flat_map, AllByRecursion}
 use Rattle.std.proofs.lemmas.List.{map-append, drop_all, length-take-le}
@@ -15,7 +15,7 @@ use Rattle.gateway.specs.Accepting.{Accepting, without_client, WithoutClient, Ad
 use Rattle.gateway.specs.Gateways.{begun}
 use Rattle.gateway.specs.Seats.{texts_to}
 use Rattle.gateway.specs.Turns.{Front}
-use Rattle.gateway.specs.Visits.{Misses, Visit, IsVisit, DayPart, Away, There}
+use Rattle.gateway.specs.Visits.{Visit, IsVisit, DayPart, Away, There}
 use Rattle.gateway.specs.Visits.{acts_in, visits_in, came_in, gone_in}
 use Rattle.gateway.proofs.Lists.{flat_map-push}
 use Rattle.gateway.proofs.Opening.{at_beginning}
@@ -42,22 +42,16 @@ pub record Life (rings : Opened Limits) (k : ℕ) (a : Accepting) (came gone : L
   pub recorded : Recorded k rings.logic rings.base a.gateway.seat.who (flat_map acts_in (done ++ running))
 
 -- one visit more
-pub visits-push : (done : List DayPart) (v : Visit) → flat_map visits_in (done ++ There v ∷ [])
-    ≡ flat_map visits_in done ++ v ∷ []
-visits-push done v = flat_map-push visits_in done (There v)
-
 pub came-push : (done : List DayPart) (v : Visit) → came_in (done ++ There v ∷ []) ≡ came_in done ++ v.came ∷ []
-came-push done v = ap (map (λ (v : Visit). v.came)) (visits-push done v)
-    ∙ map-append (λ (v : Visit). v.came) (flat_map visits_in done) (v ∷ [])
+came-push done v = rw (flat_map-push, map-append)
 
 pub gone-push : (done : List DayPart) (v : Visit) → gone_in (done ++ There v ∷ []) ≡ gone_in done ++ v.gone ∷ []
-gone-push done v = ap (map (λ (v : Visit). v.gone)) (visits-push done v)
-    ∙ map-append (λ (v : Visit). v.gone) (flat_map visits_in done) (v ∷ [])
+gone-push done v = rw (flat_map-push, map-append)
 
 -- no visit more
 visits-away : (done : List DayPart) (missed : List Said) → flat_map visits_in (done ++ Away missed ∷ [])
     ≡ flat_map visits_in done
-visits-away done missed = flat_map-push visits_in done (Away missed) ∙ append-nil (flat_map visits_in done)
+visits-away done missed = rw (flat_map-push, append-nil)
 
 module _ (rings : Opened Limits) (k : ℕ) where
   -- at the start nothing has happened
@@ -90,10 +84,10 @@ module _ (rings : Opened Limits) (k : ℕ) where
     -- without a wire no visit goes on
     module _ (free : old.wire ≡ None) where
       none_runs : life.running ≡ []
-      none_runs = subst (λ (w : Option Told). Running k old.gateway.front w life.running) free life.now
+      none_runs = rw free at life.now
 
       all_done : life.done ++ life.running ≡ life.done
-      all_done = ap (λ (ps : List DayPart). life.done ++ ps) none_runs ∙ append-nil life.done
+      all_done = rw (none_runs, append-nil)
 
     -- a look without a client
     pub life-idles : (n : ℕ) (turned : Turned) (left : Option Told) → WithoutClient n old new turned left
@@ -108,18 +102,12 @@ module _ (rings : Opened Limits) (k : ℕ) where
         append-nil (life.done ++ Away missed ∷ []) in record {
           done = life.done ++ Away missed ∷ [];
           running = [];
-          now = subst (λ (w : Option Told). Running k new.gateway.front w []) (sym without.still) refl;
-          visits = subst (AllByRecursion (IsVisit k)) (sym (visits-away life.done missed)) life.visits;
-          came_are = ap came_in after
-              ∙ ap (map (λ (v : Visit). v.came)) (visits-away life.done missed)
-              ∙ sym (ap came_in before)
-              ∙ life.came_are;
-          gone_are = ap (map (λ (v : Visit). v.gone)) (visits-away life.done missed) ∙ life.gone_are;
+          now = rw without.still refl;
+          visits = rw visits-away life.visits;
+          came_are = rw (after, visits-away) (rw before at life.came_are);
+          gone_are = rw visits-away life.gone_are;
           sits = sits_still rings k old.gateway.seat new.gateway.seat life.sits without.looks.stays;
-          recorded = subst (Recorded k rings.logic rings.base new.gateway.seat.who)
-              (ap (λ (ps : List DayPart). flat_map acts_in ps ++ map Misses missed) before
-              ∙ sym (flat_map-push acts_in life.done (Away missed)) ∙ sym (ap (flat_map acts_in) after))
-              looked.recorded;
+          recorded = rw (after, flat_map-push) (simp before at looked.recorded);
         }
 
     -- a client is let in
@@ -148,17 +136,13 @@ module _ (rings : Opened Limits) (k : ℕ) where
           gone = refl;
         } in
         let before = all_done free in
-        subst (λ (a : Accepting). Life rings k a (came ++ wire ∷ []) gone) (sym is) (record {
+        rw is (record {
           done = life.done;
           running = There visit ∷ [];
           now = (visit, fits, refl);
           visits = life.visits;
-          came_are = came-push life.done visit
-              ∙ ap (λ (ws : List Told). ws ++ wire ∷ []) (sym (ap came_in before) ∙ life.came_are);
+          came_are = rw (came-push, rw before at life.came_are);
           gone_are = life.gone_are;
           sits = life.sits;
-          recorded = subst (Recorded k rings.logic rings.base old.gateway.seat.who)
-              (ap (flat_map acts_in) before ∙ sym (append-nil (flat_map acts_in life.done))
-              ∙ sym (flat_map-push acts_in life.done (There visit)))
-              life.recorded;
+          recorded = rw (flat_map-push, append-nil) (rw before at life.recorded);
         })

@@ -16,6 +16,15 @@ and_right true b h = h
 and_right false b h = cc
 
 module _ {X : Type 0} where
+  -- two lists that are nothing together are nothing each
+  pub no_front : (xs ys : List X) → xs ++ ys ≡ [] → xs ≡ []
+  no_front [] ys e = refl
+  no_front (x ∷ xs) ys e = cc
+
+  pub no_end : (xs ys : List X) → xs ++ ys ≡ [] → ys ≡ []
+  no_end [] ys e = e
+  no_end (x ∷ xs) ys e = cc
+
   pub flat_map-push : {Y : Type 0} (f : X → List Y) (xs : List X) (x : X)
       → flat_map f (xs ++ x ∷ []) ≡ flat_map f xs ++ f x
   flat_map-push f xs x = flat_map-append f xs (x ∷ []) ∙ ap (λ ys. flat_map f xs ++ ys) (append-nil (f x))

@@ -1,5 +1,5 @@
 -- A session that nobody is logged on to has published nothing: the first message that it accepts is the Logon.
-use Rattle.std.proofs.Common.{◌≡◌, inl, inr, ℕ, ◌+◌, Bool, true, false, List, [], ◌∷◌, ◌++◌, refl, ap, sym, subst, ◌∙◌}
+use Rattle.std.proofs.Common.{◌≡◌, inl, inr, ℕ, ◌+◌, Bool, true, false, List, [], ◌∷◌, ◌++◌, refl, ap, sym, ◌∙◌}
 use Rattle.std.proofs.Common.{Option, Some, None}
 use Rattle.std.specs.Prelude.{◌==◌, not, codes, if◌then◌else◌}
 use Rattle.std.specs.List.{flat_map, list_all, list_any}
@@ -84,11 +84,9 @@ none_held None (Some reason) messages (inr (same, message, waits)) = absurd
 -- a session that nobody is logged on to has published nothing
 pub none_published : (s : Standing) (input : List ℕ) (messages : List (List ℕ)) (outs : List Said) (written : List ℕ)
     → At s input messages outs written → s.logged_on ≡ false → messages ≡ []
-none_published s input messages outs written at off =
-    let spoken = at.spoken in
-    let none_accepted : at.frames ≡ [] =
-    no_frames s.gateway at.frames at.lasts spoken.items at.answers.accepted spoken.says.answered
+none_published s input messages outs written stands off =
+    let spoken = stands.spoken in
+    let none_accepted : stands.frames ≡ [] =
+    no_frames s.gateway stands.frames stands.lasts spoken.items stands.answers.accepted spoken.says.answered
     (sym spoken.logon ∙ off) in
-    none_held s.held s.closing messages
-    (subst (λ (frames : List (List Field)). Held s.held s.closing messages
-    (judged s.gateway 0 no_time frames)) none_accepted at.held)
+    none_held s.held s.closing messages (rw none_accepted at stands.held)

@@ -12,36 +12,26 @@ one_digit : (n : ℕ) → n < 10 → decimal n ≡ (48 + n % 10) ∷ []
 one_digit n small = let same : n ≡ n % 10 = omega arith in decimal_digit n small ∙ ap (λ k. (48 + k) ∷ []) same
 
 two_digits : (n : ℕ) → 10 ≤ n → n < 100 → decimal n ≡ (48 + n / 10 % 10) ∷ (48 + n % 10) ∷ []
-two_digits n large small =
-    decimal_step n large (omega arith) ∙ ap (λ ds. ds ++ (48 + n % 10) ∷ []) (one_digit (n / 10) (omega arith))
+two_digits n large small = rw (decimal_step n large (omega arith), one_digit (n / 10) (omega arith))
 
 three_digits : (n : ℕ) → 100 ≤ n → n < 1000 → decimal n ≡ (48 + n / 100) ∷ (48 + n / 10 % 10) ∷ (48 + n % 10) ∷ []
 three_digits n large small =
     let tens : n / 10 / 10 % 10 ≡ n / 100 = omega arith in
-    decimal_step n (omega arith) (omega arith) ∙ ap (λ ds. ds ++ (48 + n % 10) ∷ [])
-    (two_digits (n / 10) (omega arith) (omega arith))
-    ∙ ap (λ k. (48 + k) ∷ (48 + n / 10 % 10) ∷ (48 + n % 10) ∷ []) tens
+    rw (decimal_step n (omega arith) (omega arith), two_digits (n / 10) (omega arith) (omega arith), tens)
 
 module _ (n : ℕ) (start : List ℕ) (begun : start ≡ [] ++ 67 ∷ []) where
   pub named_by_one : (last : List ℕ) → n < 10 → last ≡ start ++ (48 + n % 10) ∷ [] → last ≡ client_name n
-  named_by_one last small last_is =
-      last_is ∙ ap (λ s. s ++ (48 + n % 10) ∷ []) begun ∙ ap (λ ds. 67 ∷ ds) (sym (one_digit n small))
+  named_by_one last small last_is = rw (last_is, begun, one_digit n small)
 
   pub named_by_two : (mid last : List ℕ) → 10 ≤ n → n < 100 → mid ≡ start ++ (48 + n / 10 % 10) ∷ []
       → last ≡ mid ++ (48 + n % 10) ∷ [] → last ≡ client_name n
-  named_by_two mid last large small mid_is last_is =
-      last_is ∙ ap (λ m. m ++ (48 + n % 10) ∷ []) mid_is ∙ ap (λ s. s ++ (48 + n / 10 % 10) ∷ [] ++ (48 + n % 10) ∷ [])
-      begun
-      ∙ ap (λ ds. 67 ∷ ds) (sym (two_digits n large small))
+  named_by_two mid last large small mid_is last_is = rw (last_is, mid_is, begun, two_digits n large small)
 
   pub named_by_three : (big mid last : List ℕ) → 100 ≤ n → n < 1000 → big ≡ start ++ (48 + n / 100) ∷ []
       → mid ≡ big ++ (48 + n / 10 % 10) ∷ [] →
       last ≡ mid ++ (48 + n % 10) ∷ [] → last ≡ client_name n
   named_by_three big mid last large small big_is mid_is last_is =
-      last_is ∙ ap (λ m. m ++ (48 + n % 10) ∷ []) mid_is ∙ ap (λ b. b ++ (48 + n / 10 % 10) ∷ [] ++ (48 + n % 10) ∷ [])
-      big_is
-      ∙ ap (λ s. s ++ (48 + n / 100) ∷ [] ++ (48 + n / 10 % 10) ∷ [] ++ (48 + n % 10) ∷ []) begun
-      ∙ ap (λ ds. 67 ∷ ds) (sym (three_digits n large small))
+      rw (last_is, mid_is, big_is, begun, three_digits n large small)
 
 -- a name of two bytes, the first a C, is that of the client whose digit is the second
 pub named_client : (name : List ℕ) (gateway : ℕ) → length name ≡ 2 → slice_index_or name 0 0 ≡ 67 → gateway < 10

@@ -1,13 +1,11 @@
 -- A session that isn't closing, seen without the cases of its end.
-use Rattle.std.proofs.Common.{◌≡◌, ℕ, suc, ◌+◌, add-zero, Bool, true, false, List, [], ◌∷◌, ◌++◌, length, refl, ap, sym}
-use Rattle.std.proofs.Common.{subst, ◌∙◌, arith, append-nil, Option, None, is_some}
+use Rattle.std.proofs.Common.{◌≡◌, ℕ, suc, ◌+◌, add-zero, true, false, List, [], ◌∷◌, ◌++◌, length, refl}
+use Rattle.std.proofs.Common.{arith, append-nil, None}
 use Rattle.std.specs.List.{flat_map, list_all, AllByRecursion}
 use Rattle.fix_frame.specs.Grammar.{Field, IsBody, frame_text, frame_of, head, most_in}
 use Rattle.fix_frame.specs.Stream.{BeginsNoFrame}
 use Rattle.fix_orders.specs.Text.{Said}
-use Rattle.gateway.specs.declared.ending.Reason.{Reason}
-use Rattle.gateway.specs.Answers.{Judgement, judgement, judged, last_time, time_after, no_time, goes_on, replies_of}
-use Rattle.gateway.specs.Answers.{Ending}
+use Rattle.gateway.specs.Answers.{judgement, judged, last_time, time_after, no_time, goes_on, replies_of}
 use Rattle.gateway.specs.Standing.{Standing, speaker, Spoken, Held, At}
 use Rattle.gateway.specs.SessionCalls.{fresh}
 
@@ -16,13 +14,10 @@ pub judged-push : (gateway accepted : ℕ) (last : List ℕ) (frames : List (Lis
     judged gateway accepted last (frames ++ frame ∷ []) ≡
     judged gateway accepted last frames ++ judgement gateway (accepted + length frames) (last_time last frames) frame
     ∷ []
-judged-push gateway accepted last [] frame = ap (λ n. judgement gateway n last frame ∷ []) (sym (add-zero accepted))
+judged-push gateway accepted last [] frame = rw add-zero
 judged-push gateway accepted last (f ∷ frames) frame =
     let number : accepted + 1 + length frames ≡ accepted + suc (length frames) = omega arith in
-    ap (λ js. judgement gateway accepted last f ∷ js)
-    (judged-push gateway (accepted + 1) (time_after last f) frames frame
-    ∙ ap (λ n. judged gateway (accepted + 1) (time_after last f) frames
-    ++ judgement gateway n (last_time (time_after last f) frames) frame ∷ []) number)
+    rw (judged-push gateway (accepted + 1) (time_after last f) frames frame, number)
 
 pub last_time-push : (last : List ℕ) (frames : List (List Field)) (frame : List Field)
     → last_time last (frames ++ frame ∷ []) ≡ time_after (last_time last frames) frame
@@ -43,59 +38,40 @@ pub record Open (s : Standing) (input : List ℕ) (messages : List (List ℕ)) (
   pub accepted : s.accepted ≡ length frames
   pub time : s.time ≡ last_time no_time frames
 
--- at a session that isn't closing the last judgement is missing, and the rest is the message under way
-open_ending : (gateway : ℕ) (frames : List (List Field)) (rest under_way : List ℕ) (lasts : List Judgement)
-    (closing : Option Reason) →
-    closing ≡ None → Ending gateway frames rest under_way closing lasts →
-    (lasts ≡ []) × (under_way ≡ rest) × BeginsNoFrame rest
-open_ending gateway frames rest under_way lasts closing is_open ending =
-    subst (λ c. Ending gateway frames rest under_way c lasts) is_open ending
-
+-- the last judgement is missing, and the rest is the message under way
 pub opened : (s : Standing) (input : List ℕ) (messages : List (List ℕ)) (outs : List Said) (written : List ℕ) →
     s.closing ≡ None → At s input messages outs written → Open s input messages outs written
-opened s input messages outs written is_open at =
-    let js = judged s.gateway 0 no_time at.frames in
-    let ending = open_ending s.gateway at.frames at.answers.rest s.under_way at.lasts s.closing is_open
-    at.answers.ending in
-    let replies_are : flat_map replies_of (js ++ at.lasts) ≡ flat_map replies_of js =
-    ap (λ l. flat_map replies_of (js ++ l)) ending.0 ∙ ap (flat_map replies_of) (append-nil js) in
+opened s input messages outs written is_open stands =
+    let ending = rw is_open at stands.answers.ending in
     record {
-      frames = at.frames;
-      cut = at.answers.cut ∙ ap (λ r. flat_map frame_text at.frames ++ r) (sym ending.1);
-      bodies = at.answers.bodies;
-      all_go_on = at.answers.accepted;
-      partial = subst BeginsNoFrame (sym ending.1) ending.2;
-      spoken = subst (λ (c : Bool). Spoken (speaker s.gateway s.number s.logged_on c) (written ++ s.outgoing)
-          (flat_map replies_of js) outs) (ap is_some is_open)
-          (subst (λ rs. Spoken (speaker s.gateway s.number s.logged_on (is_some s.closing)) (written ++ s.outgoing) rs
-          outs) replies_are at.spoken);
-      held = subst (λ (c : Option Reason). Held s.held c messages js) is_open at.held;
-      accepted = at.accepted;
-      time = at.time;
+      frames = stands.frames;
+      cut = rw ending.1 stands.answers.cut;
+      bodies = stands.answers.bodies;
+      all_go_on = stands.answers.accepted;
+      partial = rw ending.1 ending.2;
+      spoken = rw (is_open, ending.0, append-nil) at stands.spoken;
+      held = rw is_open at stands.held;
+      accepted = stands.accepted;
+      time = stands.time;
     }
 
 pub closed : (s : Standing) (input : List ℕ) (messages : List (List ℕ)) (outs : List Said) (written : List ℕ) →
     s.closing ≡ None → Open s input messages outs written → At s input messages outs written
-closed s input messages outs written is_open at =
-    let js = judged s.gateway 0 no_time at.frames in
+closed s input messages outs written is_open stands =
     record {
-      frames = at.frames;
+      frames = stands.frames;
       lasts = [];
       answers = record {
         rest = s.under_way;
-        cut = at.cut;
-        bodies = at.bodies;
-        accepted = at.all_go_on;
-        ending = subst (λ (c : Option Reason). Ending s.gateway at.frames s.under_way s.under_way c [])
-            (sym is_open) (refl, refl, at.partial);
+        cut = stands.cut;
+        bodies = stands.bodies;
+        accepted = stands.all_go_on;
+        ending = rw is_open (refl, refl, stands.partial);
       };
-      spoken = subst (λ (c : Bool). Spoken (speaker s.gateway s.number s.logged_on c) (written ++ s.outgoing)
-          (flat_map replies_of (js ++ [])) outs) (sym (ap is_some is_open))
-          (subst (λ l. Spoken (speaker s.gateway s.number s.logged_on false) (written ++ s.outgoing)
-          (flat_map replies_of l) outs) (sym (append-nil js)) at.spoken);
-      held = subst (λ (c : Option Reason). Held s.held c messages js) (sym is_open) at.held;
-      accepted = at.accepted;
-      time = at.time;
+      spoken = rw (is_open, append-nil) stands.spoken;
+      held = rw is_open stands.held;
+      accepted = stands.accepted;
+      time = stands.time;
     }
 
 -- nothing was fed, and nothing is no frame

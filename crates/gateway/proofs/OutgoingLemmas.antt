@@ -11,8 +11,7 @@ module _ (standing room n : ℕ) (bytes out : List ℕ) (within : standing ≤ l
       let front = take standing bytes in
       let behind = post_of standing room bytes in
       let long : length front + n ≡ standing + n = omega (arith, length-take-le standing bytes within) in
-      ap (λ m. take m (front ++ (out ++ behind))) (sym long) ∙ take-append-add front (out ++ behind) n
-      ∙ ap (λ l. front ++ l) (take-append-le n out behind fits)
+      ap (λ m. take m (front ++ (out ++ behind))) (sym long) ∙ (rw (take-append-add, take-append-le n out behind fits))
 
   pub few_behind : (stood : List ℕ) → take standing bytes ≡ stood → n ≤ 412
       → length (take (standing + n) (put_mid standing room bytes out)) ≤ length stood + 412

@@ -13,7 +13,7 @@ use Rattle.gateway.specs.Ledgers.{PublishTells}
 use Rattle.gateway.specs.Seats.{messages_of, ledger_of, from_gateway, Published, Enters}
 
 -- a load, some more, and one behind them
-in_order : (xs ls : List Load) (l m : Load) → ((xs ++ l ∷ []) ++ ls) ++ m ∷ [] ≡ xs ++ (l ∷ ls ++ m ∷ [])
+pub in_order : (xs ls : List Load) (l m : Load) → ((xs ++ l ∷ []) ++ ls) ++ m ∷ [] ≡ xs ++ (l ∷ ls ++ m ∷ [])
 in_order xs ls l m = append_assoc (xs ++ l ∷ []) ls (m ∷ []) ∙ append_assoc xs (l ∷ []) (ls ++ m ∷ [])
 
 module _ (n : ℕ) (s t : At Limits) (bytes : List ℕ) where

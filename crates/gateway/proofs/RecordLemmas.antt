@@ -1,6 +1,6 @@
 -- What a member's person knows is what happened so far, by a publication and by a look for an output.
 use Rattle.std.proofs.Common.{◌≡◌, ℕ, suc, ◌≤◌, Bool, List, [], ◌∷◌, ◌++◌, length}
-use Rattle.std.proofs.Common.{map, take, drop, refl, ap, sym, subst, ◌∙◌, arith, append-nil}
+use Rattle.std.proofs.Common.{map, take, drop, refl, ap, sym, ◌∙◌, arith, append-nil}
 use Rattle.std.proofs.Common.{take-append-drop}
 use Rattle.std.specs.List.{flat_map}
 use Rattle.std.proofs.lemmas.List.{map-append}
@@ -22,7 +22,7 @@ use Rattle.ring_words.specs.declared.view.Person.{Person}
 use Rattle.ring_words.specs.declared.view.Sent.{Sent}
 use Rattle.barrier.specs.Taking.{TakesNext}
 use Rattle.gateway.specs.Seats.{taken_by}
-use Rattle.gateway.specs.Visits.{Entry, Act, Enters, entered_by, reports_by, reports_for, NoneOvertakes}
+use Rattle.gateway.specs.Visits.{Act, Enters, entered_by, reports_by, reports_for, NoneOvertakes}
 use Rattle.gateway.proofs.Lists.{flat_map-push}
 use Rattle.gateway.proofs.TakenLemmas.{still_within}
 use Rattle.gateway.proofs.SendLemmas.{RiseFrom, AreUpTo, entry_sent, rises-push, up_to-push}
@@ -62,7 +62,7 @@ pub record Publishes (p q : Person) (sent : Sent) : Type 0 where
 -- a bound on the claim values loaded is one on those loaded before
 claims_before : (p q : Person) (more : List Load) (s : ℕ) → q.loads ≡ p.loads ++ more → ClaimsUpTo q s → ClaimsUpTo p s
 claims_before p q more s loads most i l there =
-    most i l (subst (λ (ls : List Load). get_elem? ls i ≡ some l) (sym loads) (at_longer p.loads more i l there))
+    most i l (rw loads (at_longer p.loads more i l there))
 
 module _ (k : ℕ) (limits : Limits) (base : History) where
   abbrev taken : Person → List Said
@@ -77,14 +77,12 @@ module _ (k : ℕ) (limits : Limits) (base : History) where
     pub still_recorded : OnlyLooked p q → Recorded k limits base q acts
     still_recorded looked = record {
       from = let before = so_far.from in let count = looked.count in omega (arith, before, count);
-      to = subst (λ (n : ℕ). n ≤ length (outputs_of limits q.seen)) (sym looked.count)
-          (subst (λ (h : History). p.sequence ≤ length (outputs_of limits h)) (sym looked.seen) so_far.to);
-      rises = subst (RiseFrom 0) (sym looked.mine) so_far.rises;
-      claimed = λ s most. subst (AreUpTo s) (sym looked.mine) (so_far.claimed s
-          (claims_before p q looked.more s looked.loads most));
-      entered = so_far.entered ∙ ap (map entry_sent) (sym looked.mine);
+      to = rw (looked.count, looked.seen) so_far.to;
+      rises = rw looked.mine so_far.rises;
+      claimed = λ s most. rw looked.mine (so_far.claimed s (claims_before p q looked.more s looked.loads most));
+      entered = rw looked.mine so_far.entered;
       reports = so_far.reports ∙ sym (same_taken p q looked.seen looked.count);
-      behind = λ log begins. so_far.behind log (subst (λ (h : History). IsBeginning h log) looked.seen begins);
+      behind = λ log begins. so_far.behind log (rw looked.seen at begins);
     }
 
     module _ (sent : Sent) (publishes : Publishes p q sent) where
@@ -93,12 +91,8 @@ module _ (k : ℕ) (limits : Limits) (base : History) where
 
       own_claim : (s : ℕ) → ClaimsUpTo q s → sent.sequence ≤ s
       own_claim s most =
-          let there = at_behind p.loads (load_of claim sent.sequence ∷ publishes.more) 0 (length p.loads)
-          (load_of claim sent.sequence)
-          (omega arith) refl in
-          most (length p.loads) (load_of claim sent.sequence)
-          (subst (λ (ls : List Load). get_elem? ls (length p.loads) ≡ some (load_of claim sent.sequence))
-          (sym publishes.loads) there) refl
+          most (length p.loads) (load_of claim sent.sequence) (rw publishes.loads (at_behind p.loads
+          (load_of claim sent.sequence ∷ publishes.more) 0 (length p.loads) _ (omega arith) refl)) refl
 
       few_before : (log : History) → IsBeginning p.seen log
           → length (flat_map reports_by acts) ≤ length (reports_for k limits base (take sent.sequence log))
@@ -110,19 +104,14 @@ module _ (k : ℕ) (limits : Limits) (base : History) where
       pub recorded-published : Recorded k limits base q (acts ++ enters ∷ [])
       recorded-published = record {
         from = let before = so_far.from in let count = publishes.count in omega (arith, before, count);
-        to = subst (λ (n : ℕ). n ≤ length (outputs_of limits q.seen)) (sym publishes.count)
-            (subst (λ (h : History). p.sequence ≤ length (outputs_of limits h)) (sym publishes.seen) so_far.to);
-        rises = subst (RiseFrom 0) (sym publishes.mine)
+        to = rw (publishes.count, publishes.seen) so_far.to;
+        rises = rw publishes.mine
             (rises-push 0 p.mine sent so_far.rises (omega arith) (so_far.claimed sent.sequence publishes.below));
-        claimed = λ s most. subst (AreUpTo s) (sym publishes.mine) (up_to-push s p.mine sent
-            (so_far.claimed s (claims_before p q (load_of claim sent.sequence ∷ publishes.more) s publishes.loads most))
-            (own_claim s most));
-        entered = flat_map-push entered_by acts enters ∙ ap (λ (es : List Entry). es
-            ++ entry_sent sent ∷ []) so_far.entered
-            ∙ sym (map-append entry_sent p.mine (sent ∷ [])) ∙ ap (map entry_sent) (sym publishes.mine);
-        reports = flat_map-push reports_by acts enters ∙ append-nil (flat_map reports_by acts) ∙ so_far.reports
-            ∙ sym (same_taken p q publishes.seen publishes.count);
-        behind = λ log begins. let begins_before = subst (λ (h : History). IsBeginning h log) publishes.seen begins in
+        claimed = λ s most. rw publishes.mine (up_to-push s p.mine sent
+            (so_far.claimed s (claims_before p q _ s publishes.loads most)) (own_claim s most));
+        entered = rw (flat_map-push, so_far.entered, publishes.mine, map-append);
+        reports = rw (flat_map-push, append-nil) (so_far.reports ∙ sym (same_taken p q publishes.seen publishes.count));
+        behind = λ log begins. let begins_before = rw publishes.seen at begins in
             let few = few_before log begins_before in
             behind-enters k limits base log 0 acts (entry_sent sent) (so_far.behind log begins_before)
             (omega (arith, few));
@@ -137,8 +126,7 @@ module _ (k : ℕ) (limits : Limits) (base : History) where
           let grown : p.seen ++ rest ≡ history = ap (λ (h : History). h ++ rest) takes.begins
           ∙ take-append-drop (length p.seen) history in
           let seen : q.seen ≡ history = ap (λ (w : Person). w.seen) takes.taken in
-          begins s e (subst (λ (h : History). get_elem? h s ≡ some e) (grown ∙ sym seen)
-          (at_longer p.seen rest s e there))
+          begins s e (rw (grown ∙ sym seen) at (at_longer p.seen rest s e there))
 
       pub recorded-taken : (on : Bool) (these : List Said) → taken q ≡ taken p ++ these
           → Recorded k limits base q (acts ++ map (reporting on) these)
@@ -148,14 +136,10 @@ module _ (k : ℕ) (limits : Limits) (base : History) where
           let own : q.sequence ≡ suc p.sequence = ap (λ (w : Person). w.sequence) takes.taken in record {
             from = let before = so_far.from in omega (arith, before, own);
             to = still_within k limits base history p q o start takes next;
-            rises = subst (RiseFrom 0) (sym mine) so_far.rises;
-            claimed = λ s most. subst (AreUpTo s) (sym mine) (so_far.claimed s (claims_before p q _ s loads most));
-            entered = flat_map-append entered_by acts (map (reporting on) these)
-                ∙ ap (λ (es : List Entry). flat_map entered_by acts ++ es) (reporting-enters on these)
-                ∙ append-nil (flat_map entered_by acts) ∙ so_far.entered ∙ ap (map entry_sent) (sym mine);
-            reports = flat_map-append reports_by acts (map (reporting on) these)
-                ∙ ap (λ (es : List Said). flat_map reports_by acts ++ es) (reporting-reports on these)
-                ∙ ap (λ (es : List Said). es ++ these) so_far.reports ∙ sym is;
+            rises = rw mine so_far.rises;
+            claimed = λ s most. rw mine (so_far.claimed s (claims_before p q _ s loads most));
+            entered = rw (flat_map-append, reporting-enters, append-nil, mine) so_far.entered;
+            reports = rw (flat_map-append, reporting-reports, so_far.reports) (sym is);
             behind = λ log begins. behind-reporting k limits base log 0 acts on these
                 (so_far.behind log (seen_longer log begins));
           }

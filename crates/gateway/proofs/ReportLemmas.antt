@@ -63,9 +63,7 @@ module _ (k : ℕ) (limits : Limits) (base : History) (p : Person) (from : lengt
       ∙ ap (λ (os : List Output). os ++ more.0) (sym (take-append-drop p.sequence all))
       ∙ append_assoc front (drop p.sequence all) more.0 in (
         texts_to k (at_start + length first) behind,
-        sym (ap (λ (os : List Output). texts_to k at_start (drop at_start os)) outputs
-            ∙ ap (texts_to k at_start) (drop-append-le at_start front behind (omega (arith, long)))
-            ∙ texts-append k at_start first behind),
+        sym (rw (outputs, drop-append-le at_start front behind (omega (arith, long)), texts-append)),
       )
 
   -- they are no more than those

@@ -1,5 +1,5 @@
 -- A look for an output: what it keeps of a gateway's seat, and what it tells the session.
-use Rattle.std.proofs.Common.{◌≡◌, ◌≢◌, inl, ℕ, suc, ◌+◌, ◌^◌, ◌≤◌, List, [], ◌∷◌, ◌++◌, length, refl, ap, sym, subst}
+use Rattle.std.proofs.Common.{◌≡◌, ◌≢◌, ℕ, suc, ◌+◌, ◌^◌, ◌≤◌, List, [], ◌∷◌, ◌++◌, length, refl, ap, sym, subst}
 use Rattle.std.proofs.Common.{◌∙◌, arith}
 use Rattle.fix_orders.specs.Text.{Said, text, text_bytes}
 use Rattle.venue_model.specs.History.{Message}
@@ -16,7 +16,7 @@ use Rattle.barrier.specs.Taking.{TakesNext, Says, SaysOutput}
 use Rattle.barrier.specs.declared.taken.Take.{Take}
 use Rattle.barrier.specs.declared.taken.Take.TheVariants.{Mine, Passed, Nothing}
 use Rattle.gateway.specs.Ledgers.{ledger_loading, TakeTells}
-use Rattle.gateway.specs.Seats.{limits_of, base_outputs, HasSeen, messages_of, taken_by, ledger_of, TakesOne, Looks}
+use Rattle.gateway.specs.Seats.{limits_of, HasSeen, messages_of, taken_by, ledger_of, TakesOne, Looks}
 use Rattle.gateway.specs.Seats.{StaysSeated, MayEnter, MayLook, Uses}
 use Rattle.gateway.proofs.Carried.{carried}
 use Rattle.gateway.proofs.TakenLemmas.{taken_mine, taken_other, still_within, still_small}
@@ -26,40 +26,31 @@ knows_still : (s : At Limits) (q : Person) → q.sequence ≡ s.who.sequence →
     → HasSeen (seated s q)
 knows_still s q own seen spent knows = record {
   logic = knows.logic;
-  from = subst (λ (n : ℕ). base_outputs s ≤ n) (sym own) knows.from;
-  few = subst (λ (n : ℕ). n ≤ 2 ^ 62) (sym own) knows.few;
-  to = subst (λ (n : ℕ). n ≤ length (outputs_of (limits_of s) q.seen)) (sym own)
-      (subst (λ (h : List Message). s.who.sequence ≤ length (outputs_of (limits_of s) h)) (sym seen) knows.to);
+  from = rw own knows.from;
+  few = rw own knows.few;
+  to = rw (own, seen) knows.to;
   spent = spent;
 }
-
--- the seat of these rings knows their logic
-logic_at : (rings : Opened Limits) (s : At Limits) → IsAt rings s → limits_of s ≡ rings.logic
-logic_at rings s at = ap (λ (a : At Limits). limits_of a) at
-
-base_at : (rings : Opened Limits) (s : At Limits) → IsAt rings s → rings.base ≡ s.base
-base_at rings s at = sym (ap (λ (a : At Limits). a.base) at)
 
 -- the clause of a call that took an output or passed it over
 abbrev pub Takes : Opened Limits → At Limits → At Limits → Take → List ℕ → Type 0
 Takes rings s t take body = (history : List Message) × TakesNext (length rings.base) s.who history t.who
     × SaysOutput (outputs_of rings.logic history) text_bytes s take body
 
-module _ (rings : Opened Limits) (s t : At Limits) (at : IsAt rings s) (step : Steps s t.who t) where
+module _ (rings : Opened Limits) (s t : At Limits) (is_at : IsAt rings s) (step : Steps s t.who t) where
   -- the output and its history
   one : (take : Take) (body : List ℕ) → Takes rings s t take body
       → (o : Output) × TakesOne s t o × Says (number s) o (text_bytes o s.who.sequence) take body
   one take body (history, takes, says) =
-      let said = subst (λ (l : Limits). SaysOutput (outputs_of l history) text_bytes s take body)
-      (sym (logic_at rings s at)) says in (
-        said.0,
+      let out : SaysOutput (outputs_of (limits_of s) history) text_bytes s take body = rw (ap limits_of is_at) says in (
+        out.0,
         record {
           history = history;
-          takes = subst (λ (h : List Message). TakesNext (length h) s.who history t.who) (base_at rings s at) takes;
-          next = said.1;
+          takes = rw (ap (λ (a : At Limits). a.base) is_at) takes;
+          next = out.1;
           others = step;
         },
-        said.2,
+        out.2,
       )
 
   pub looks_so : (take : Take) (body : List ℕ) → (take ≡ Nothing → t.who ≡ looked s.who marshalled s.who.sequence)
@@ -82,12 +73,11 @@ module _ (n : ℕ) (s t : At Limits) (knows : HasSeen s) (o : Output) (one : Tak
   taken_keeps : HasSeen t
   taken_keeps =
       let own : t.who.sequence ≡ suc s.who.sequence = ap (λ (p : Person). p.sequence) one.takes.taken in
-      let from = knows.from in
-      subst HasSeen (sym one.others) (record {
+      rw one.others (record {
         logic = knows.logic;
-        from = omega (arith, from, own);
+        from = omega (arith, knows.from, own);
         to = still_within (number s) (limits_of s) s.base one.history s.who t.who o (length s.base) one.takes one.next;
-        few = let most = small in omega (arith, most, own);
+        few = omega (arith, small, own);
         spent = ap (λ (p : Person). p.claims) one.takes.taken ∙ knows.spent;
       })
 
@@ -95,22 +85,16 @@ module _ (n : ℕ) (s t : At Limits) (knows : HasSeen s) (o : Output) (one : Tak
   retold : (texts : List Said) → taken_by (number s) (limits_of s) s.base t.who ≡ texts → (ls : List Load)
       × (ledger_of n t ≡ record (ledger_loading (ledger_of n s) ls) { taken = texts; count = s.who.sequence + 1 })
   retold texts told =
-      let sends : messages_of t.who.mine ≡ messages_of s.who.mine =
-      ap (λ (p : Person). messages_of p.mine) one.takes.taken in
-      let own : t.who.sequence ≡ suc s.who.sequence = ap (λ (p : Person). p.sequence) one.takes.taken in
-      let count : t.who.sequence ≡ s.who.sequence + 1 = omega (arith, own) in
-      let ls : List Load = load_of marshalled one.takes.value ∷ one.takes.loads in
-      let loads : t.who.loads ≡ s.who.loads ++ ls = ap (λ (p : Person). p.loads) one.takes.taken in
-      let role : number_of t.who.role ≡ number s = ap (λ (p : Person). number_of p.role) one.takes.taken in
-      let now : taken_by (number_of t.who.role) (limits_of s) s.base t.who
-      ≡ texts = ap (λ (k : ℕ). taken_by k (limits_of s) s.base t.who) role ∙ told in (
-        ls,
+      let taken = one.takes.taken in
+      let own : t.who.sequence ≡ suc s.who.sequence = ap (λ (p : Person). p.sequence) taken in
+      let count : t.who.sequence ≡ s.who.sequence + 1 = omega (arith, own) in (
+        load_of marshalled one.takes.value ∷ one.takes.loads,
         ap (ledger_of n) one.others ∙ (λ i. record {
           rows = n;
-          published = sends i;
-          taken = now i;
+          published = messages_of (taken i).mine;
+          taken = (ap (λ (p : Person). taken_by (number_of p.role) (limits_of s) s.base t.who) taken ∙ told) i;
           count = count i;
-          loads = loads i;
+          loads = (taken i).loads;
         }),
       )
 
@@ -144,10 +128,8 @@ module _ (n : ℕ) (s t : At Limits) (knows : HasSeen s) where
 pub looks_stays : (s t : At Limits) (take : Take) (body : List ℕ) → Looks s t body take → StaysSeated s t
 looks_stays s t (Mine head) body (o, one, is, carries) =
     record { rings = one.others; role = ap (λ (p : Person). p.role) one.takes.taken }
-looks_stays s t Passed body (o, one, other) = record {
-  rings = one.others;
-  role = ap (λ (p : Person). p.role) one.takes.taken;
-}
+looks_stays s t Passed body (o, one, other) =
+    record { rings = one.others; role = ap (λ (p : Person). p.role) one.takes.taken }
 looks_stays s t Nothing body is =
     let who : t.who ≡ looked s.who marshalled s.who.sequence = ap (λ (a : At Limits). a.who) is in
     record { rings = is ∙ ap (seated s) (sym who); role = ap (λ (p : Person). p.role) who }
@@ -156,15 +138,9 @@ looks_stays s t Nothing body is =
 pub seat_still : (s : At Limits) → StaysSeated s s
 seat_still s = record { rings = refl; role = refl }
 
--- a seat that wasn't used
-pub unused : (n : ℕ) (s t : At Limits) → t ≡ s → Uses n s t
-unused n s t still = subst (Uses n s) (sym still)
-    (record { stays = seat_still s; between = s; enters = inl refl; looks = inl refl })
-
--- a seat that was used for a try to publish, and then for a look
-pub used : (n : ℕ) (s t u v : At Limits) → StaysSeated s t → MayEnter n s t → StaysSeated t u → MayLook t u → v ≡ u
-    → Uses n s v
-used n s t u v first enters next looks still = subst (Uses n s) (sym still) (record {
+-- A seat that was used for a try to publish at most, and then for a look at most.
+pub used : {n : ℕ} {s t u : At Limits} → StaysSeated s t → MayEnter n s t → StaysSeated t u → MayLook t u → Uses n s u
+used {n} {s} {t} {u} first enters next looks = record {
   stays = record {
     rings = next.rings ∙ ap (λ (x : At Limits). seated x u.who) first.rings;
     role = next.role ∙ first.role;
@@ -172,4 +148,4 @@ used n s t u v first enters next looks still = subst (Uses n s) (sym still) (rec
   between = t;
   enters = enters;
   looks = looks;
-})
+}

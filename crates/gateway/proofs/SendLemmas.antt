@@ -92,13 +92,9 @@ module _ (k : ℕ) where
 
     by_owner : (b : Bool) → (m.gateway == k) ≡ b → map entry_sent ps
         ≡ (if m.gateway == k then entry ∷ own_entries k (a + 1) ms else own_entries k (a + 1) ms)
-    by_owner true own =
-        taken_first a m (own_entries k (a + 1) ms) ps rises (here ∙ ap (λ (b : Bool). cond b (m ∷ []) []) own)
-        (λ qs qs_rise same. again qs qs_rise (λ i. same i ∙ behind i))
-        ∙ ap (λ (b : Bool). if b then entry ∷ own_entries k (a + 1) ms else own_entries k (a + 1) ms) (sym own)
-    by_owner false other =
-        again ps (from_next a ps rises (here ∙ ap (λ (b : Bool). cond b (m ∷ []) []) other)) behind
-        ∙ ap (λ (b : Bool). if b then entry ∷ own_entries k (a + 1) ms else own_entries k (a + 1) ms) (sym other)
+    by_owner true own = rw own (taken_first a m (own_entries k (a + 1) ms) ps rises (rw own at here)
+        (λ qs qs_rise same. again qs qs_rise (λ i. same i ∙ behind i)))
+    by_owner false other = rw other (again ps (from_next a ps rises (rw other at here)) behind)
 
   -- sends whose sequences never fall are the entries of gateway k, where it has just these in the log from a on
   in_order : (a : ℕ) (ms : History) (ps : List Sent) → RiseFrom a ps
@@ -138,9 +134,6 @@ pub sends_are : (k start : ℕ) (log : History) (ps : List Sent) → RiseFrom 0 
     → ((s : ℕ) → sent_at s ps ≡ published_at start k log s) → map entry_sent ps ≡ own_entries k start (drop start log)
 sends_are k start log ps rises is =
     in_order k start (drop start log) ps
-    (from_start start ps rises (λ s lt. is s ∙ ap (λ (b : Bool). if b then [] else of_gateway k (get_elem? log s))
-    (is_below s start lt)))
-    (λ i. is (start + i)
-    ∙ ap (λ (b : Bool). if b then [] else of_gateway k (get_elem? log (start + i)))
-    (isn't_below (start + i) start (omega arith))
-    ∙ ap (of_gateway k) (stands_behind log start i (start + i) refl))
+    (from_start start ps rises (λ s lt. rw (is_below s start lt) at (is s)))
+    (λ i. rw (isn't_below (start + i) start (omega arith), stands_behind log start i (start + i) refl) at
+    (is (start + i)))

@@ -1,9 +1,8 @@
 -- The whole life of an acceptor, and what it comes to where its gateway's publications are those of the one history.
-use Rattle.std.proofs.Common.{◌≡◌, inl, inr, ℕ, zero, suc, List, [], ◌∷◌, ◌++◌, length, ap}
-use Rattle.std.proofs.Common.{sym, subst, ◌∙◌, append-nil, Option, Some, None}
+use Rattle.std.proofs.Common.{◌≡◌, inl, inr, ℕ, zero, suc, List, [], ◌++◌, length}
+use Rattle.std.proofs.Common.{◌∙◌, append-nil, Option, Some, None}
 use Rattle.std.specs.Prelude.{option_to_list}
 use Rattle.std.specs.List.{flat_map, AllByRecursion}
-use Rattle.fix_orders.specs.Text.{Said}
 use Rattle.venue_model.specs.History.{History}
 use Rattle.venue_model.specs.Requests.{Limits}
 use Rattle.ring_words.specs.At.{Opened}
@@ -14,8 +13,8 @@ use Rattle.gateway.specs.Accepting.{Accepting, TakesTurn, Goes, AttendsFor}
 use Rattle.gateway.specs.declared.ending.Turned.{Turned}
 use Rattle.gateway.specs.Visits.{IsVisit, DayPart, acts_in, visits_in, gone_in, reports_by, reports_for}
 use Rattle.gateway.specs.Visits.{IsFirstOf, StillThere, WasServed}
-use Rattle.gateway.proofs.Lists.{AllByRecursion-push}
-use Rattle.gateway.proofs.LifeLemmas.{Running, Life, visits-push, gone-push, life-idles, life-admits}
+use Rattle.gateway.proofs.Lists.{flat_map-push, AllByRecursion-push}
+use Rattle.gateway.proofs.LifeLemmas.{Running, Life, gone-push, life-idles, life-admits}
 use Rattle.gateway.proofs.ReportLemmas.{taken_first}
 use Rattle.gateway.proofs.SendLemmas.{sends_are}
 use Rattle.gateway.proofs.TurnLives.{life-turns}
@@ -24,9 +23,8 @@ module _ (rings : Opened Limits) (k n : ℕ) where
   by_turn : (old new : Accepting) (came gone : List Told) (turned : Turned) (left : Option Told)
       → Life rings k old came gone
       → TakesTurn n old new turned left → Life rings k new came (gone ++ option_to_list left)
-  by_turn old new came gone turned left life (inl without) = subst (λ (l : List Told). Life rings k new came l)
-      (sym (append-nil gone) ∙ ap (λ (w : Option Told). gone ++ option_to_list w) (sym without.no_wire))
-      (life-idles rings k old new came gone life n turned left without)
+  by_turn old new came gone turned left life (inl without) =
+      rw (without.no_wire, append-nil) (life-idles rings k old new came gone life n turned left without)
   by_turn old new came gone turned left life (inr with_client) =
       life-turns rings k n old new came gone life turned left with_client
 
@@ -34,24 +32,16 @@ module _ (rings : Opened Limits) (k n : ℕ) where
       → Goes n old new came_now gone_now
       → Life rings k new (came ++ came_now) (gone ++ gone_now)
   by_step old new came gone came_now gone_now life (inl (turned, left, takes, none, is)) =
-      subst (λ (l : List Told). Life rings k new l (gone ++ gone_now))
-      (sym (append-nil came) ∙ ap (λ (l : List Told). came ++ l) (sym none))
-      (subst (λ (l : List Told). Life rings k new came (gone ++ l)) (sym is)
-      (by_turn old new came gone turned left life takes))
+      rw (none, append-nil, is) (by_turn old new came gone turned left life takes)
   by_step old new came gone came_now gone_now life (inr (wire, admits, is, none)) =
-      subst (λ (l : List Told). Life rings k new l (gone ++ gone_now)) (ap (λ (l : List Told). came ++ l) (sym is))
-      (subst (λ (l : List Told). Life rings k new (came ++ wire ∷ []) l)
-      (sym (append-nil gone) ∙ ap (λ (l : List Told). gone ++ l) (sym none))
-      (life-admits rings k old new came gone life wire admits))
+      rw (is, none, append-nil) (life-admits rings k old new came gone life wire admits)
 
   -- however often it went on
   pub lives : (steps : ℕ) (old new : Accepting) (came gone : List Told) → Life rings k old [] []
       → AttendsFor n steps old new came gone
       → Life rings k new came gone
   lives zero old new came gone life (is, none_came, none_gone) =
-      subst (λ (l : List Told). Life rings k new came l) (sym none_gone)
-      (subst (λ (l : List Told). Life rings k new l []) (sym none_came)
-      (subst (λ (a : Accepting). Life rings k a [] []) (sym is) life))
+      rw (none_gone, none_came, is) life
   lives (suc steps) old new came gone life (
     mid,
     came_before,
@@ -63,35 +53,28 @@ module _ (rings : Opened Limits) (k n : ℕ) where
     came_is,
     gone_is,
   ) =
-      subst (λ (l : List Told). Life rings k new came l) (sym gone_is)
-      (subst (λ (l : List Told). Life rings k new l (gone_before ++ gone_now)) (sym came_is)
-      (by_step mid new came_before gone_before came_now gone_now
-      (lives steps old mid came_before gone_before life before) step))
+      rw (gone_is, came_is) (by_step mid new came_before gone_before came_now gone_now
+      (lives steps old mid came_before gone_before life before) step)
 
   -- the visit that goes on is the last one
   module _ (done : List DayPart) (all : AllByRecursion (IsVisit k) (flat_map visits_in done)) where
     all_visits : (end : Accepting) (wire : Option Told) (running : List DayPart)
         → Running k end.gateway.front wire running
         → AllByRecursion (IsVisit k) (flat_map visits_in (done ++ running))
-    all_visits end None running none = subst (λ (ps : List DayPart). AllByRecursion (IsVisit k) (flat_map visits_in ps))
-        (sym (ap (λ (ps : List DayPart). done ++ ps) none ∙ append-nil done)) all
-    all_visits end (Some wire) running (v, fits, is) = subst (λ (ps : List DayPart). AllByRecursion (IsVisit k)
-        (flat_map visits_in (done ++ ps))) (sym is)
-        (subst (AllByRecursion (IsVisit k)) (sym (visits-push done v))
-        (AllByRecursion-push (IsVisit k) (flat_map visits_in done) v all fits.visit))
+    all_visits end None running none = rw (none, append-nil) all
+    all_visits end (Some wire) running (v, fits, is) =
+        rw (is, flat_map-push) (AllByRecursion-push (IsVisit k) (flat_map visits_in done) v all fits.visit)
 
   all_gone : (done : List DayPart) (end : Accepting) (wire : Option Told) (running : List DayPart)
       → Running k end.gateway.front wire running → gone_in (done ++ running) ≡ gone_in done ++ option_to_list wire
-  all_gone done end None running none =
-      ap gone_in (ap (λ (ps : List DayPart). done ++ ps) none ∙ append-nil done) ∙ sym (append-nil (gone_in done))
-  all_gone done end (Some wire) running (v, fits, is) = ap (λ (ps : List DayPart). gone_in (done ++ ps)) is
-      ∙ gone-push done v ∙ ap (λ (w : Told). gone_in done ++ w ∷ []) fits.gone
+  all_gone done end None running none = rw (none, append-nil, append-nil)
+  all_gone done end (Some wire) running (v, fits, is) = rw (is, gone-push, fits.gone)
 
   still_there : (done : List DayPart) (end : Accepting) (wire : Option Told) (running : List DayPart)
       → Running k end.gateway.front wire running
       → StillThere wire (done ++ running)
   still_there done end None running none = tt
-  still_there done end (Some wire) running (v, fits, is) = (done, v, ap (λ (ps : List DayPart). done ++ ps) is)
+  still_there done end (Some wire) running (v, fits, is) = (done, v, rw is)
 
   -- what was taken of the reports is the first of those for the member, by each history that begins with what the
   -- gateway has seen
@@ -102,7 +85,7 @@ module _ (rings : Opened Limits) (k n : ℕ) where
   life-kept end came gone life h begins =
       let known = life.recorded in
       let first = taken_first k rings.logic rings.base end.gateway.seat.who known.from known.to h begins in
-      (first.0, ap (λ (os : List Said). os ++ first.0) known.reports ∙ first.1)
+      (first.0, rw known.reports first.1)
 
   module _ (end : Accepting) (came gone : List Told) (life : Life rings k end came gone) (log : History)
       (mine : (s : ℕ) → sent_at s end.gateway.seat.who.mine ≡ published_at (length rings.base) k log s)
@@ -120,8 +103,7 @@ module _ (rings : Opened Limits) (k n : ℕ) where
         }
 
     pub life-gone : gone_in parts ≡ gone ++ option_to_list end.wire
-    life-gone = all_gone life.done end end.wire life.running life.now ∙ ap
-        (λ (ws : List Told). ws ++ option_to_list end.wire) life.gone_are
+    life-gone = rw life.gone_are at (all_gone life.done end end.wire life.running life.now)
 
     pub life-stays : StillThere end.wire parts
     life-stays = still_there life.done end end.wire life.running life.now

@@ -1,6 +1,6 @@
 -- A gateway's seat, used for a publication or for a look: what happened so far is what its person knows.
 use Rattle.std.proofs.Common.{◌≡◌, ◌≢◌, inl, inr, ℕ, ◌^◌, Bool, List, [], ◌∷◌, ◌++◌}
-use Rattle.std.proofs.Common.{length, map, refl, ap, sym, subst, ◌∙◌, append_assoc, append-nil}
+use Rattle.std.proofs.Common.{length, map, refl, ap, sym, ◌∙◌, append_assoc, append-nil}
 use Rattle.std.specs.List.{flat_map}
 use Rattle.std.proofs.lemmas.List.{map-append}
 use mathlib.Core.Option.{some}
@@ -23,6 +23,7 @@ use Rattle.gateway.specs.Seats.{limits_of, messages_of, taken_by, from_gateway, 
 use Rattle.gateway.specs.Seats.{MayEnter, MayLook}
 use Rattle.gateway.specs.Visits as visits
 use Rattle.gateway.specs.Visits.{Act, entered_by, given_by, missed_by}
+use Rattle.gateway.proofs.PublishLemmas.{in_order}
 use Rattle.gateway.proofs.TakenLemmas.{taken_mine, taken_other}
 use Rattle.gateway.proofs.SendLemmas.{entry_sent}
 use Rattle.gateway.proofs.ActLemmas.{reporting}
@@ -63,9 +64,8 @@ module _ (rings : Opened Limits) (k : ℕ) where
 
   -- what the seat tells as taken
   pub told : (s : At Limits) → Sits rings k s → taken_by (number s) (limits_of s) s.base s.who ≡ taken s.who
-  told s sits = ap (λ (n : ℕ). taken_by n (limits_of s) s.base s.who) sits.number_is
-      ∙ ap (λ (l : Limits). taken_by k l s.base s.who) (logic_is s sits)
-      ∙ ap (λ (a : At Limits). taken_by k rings.logic a.base s.who) sits.at
+  told s sits =
+      rw (sits.number_is, logic_is s sits) (ap (λ (a : At Limits). taken_by k rings.logic a.base s.who) sits.at)
 
   -- the seat with another person in its role
   sits_then : (s t : At Limits) (q : Person) → Sits rings k s → Steps s q t → q.role ≡ s.who.role → Sits rings k t
@@ -76,9 +76,6 @@ module _ (rings : Opened Limits) (k : ℕ) where
 
   pub sits_still : (s t : At Limits) → Sits rings k s → StaysSeated s t → Sits rings k t
   sits_still s t sits stays = sits_then s t t.who sits stays.rings stays.role
-
-  same_place : (s t : At Limits) → Sits rings k s → t ≡ s → Sits rings k t
-  same_place s t sits same = subst (Sits rings k) (sym same) sits
 
   module _ (n : ℕ) (s t : At Limits) (acts : List Act) (sits : Sits rings k s) where
     module _ (bytes : List ℕ) (done : Published n s t bytes) where
@@ -101,10 +98,7 @@ module _ (rings : Opened Limits) (k : ℕ) where
         count = ap (λ (z : At Limits). z.who.sequence) published;
         more = done.claimed.1.0 ++ load_of claim done.sequence ∷ [];
         loads = ap (λ (z : At Limits). z.who.loads) published
-            ∙ append_assoc (s.who.loads ++ load_of claim done.sequence ∷ []) done.claimed.1.0
-            (load_of claim done.sequence ∷ [])
-            ∙ append_assoc s.who.loads (load_of claim done.sequence ∷ [])
-            (done.claimed.1.0 ++ load_of claim done.sequence ∷ []);
+            ∙ in_order s.who.loads done.claimed.1.0 (load_of claim done.sequence) (load_of claim done.sequence);
         below = done.claimed.1.6;
         ahead = done.claimed.1.5;
       }
@@ -123,9 +117,8 @@ module _ (rings : Opened Limits) (k : ℕ) where
     entered-none : OnlyLooked s.who t.who → Known s.who acts → Entered s.who t.who acts
     entered-none only so_far = record {
       more = [];
-      recorded = subst (λ (l : List Act). Known t.who l) (sym (append-nil acts))
-          (still_recorded k rings.logic rings.base s.who t.who acts so_far only);
-      sent = ap messages_of only.mine ∙ sym (append-nil (messages_of s.who.mine));
+      recorded = rw append-nil (still_recorded k rings.logic rings.base s.who t.who acts so_far only);
+      sent = rw (append-nil, only.mine);
       ungiven = refl;
       unmissed = refl;
       untaken = λ i. taken (record s.who { seen = only.seen i; sequence = only.count i });
@@ -155,13 +148,12 @@ module _ (rings : Opened Limits) (k : ℕ) where
         (append_assoc s.who.loads (load_of claim a ∷ []) (load_of processed p ∷ []))) so_far
     entered (inr (message, Refused, inr (a, p, b, (ls, sees, is, room, few, late)))) so_far =
         entered-none (only_loads _ (load_of claim a ∷ ls ++ load_of claim b ∷ []) is refl refl refl
-        (append_assoc (s.who.loads ++ load_of claim a ∷ []) ls (load_of claim b ∷ [])
-        ∙ append_assoc s.who.loads (load_of claim a ∷ []) (ls ++ load_of claim b ∷ []))) so_far
+        (in_order s.who.loads ls (load_of claim a) (load_of claim b))) so_far
     entered (inr (message, Exhausted, is)) so_far = entered-none (only_loads _
         (load_of claim (2 ^ 48) ∷ []) is refl refl refl refl) so_far
 
     pub sits-entered : MayEnter n s t → Sits rings k t
-    sits-entered (inl same) = same_place s t sits same
+    sits-entered (inl same) = rw same sits
     sits-entered (inr (message, Done, done)) = sits_then s t _ sits (published message done) refl
     sits-entered (inr (message, Refused, inl (a, p, is, full, few))) = sits_then s t _ sits is refl
     sits-entered (inr (message, Refused, inr (a, p, b, (ls, sees, is, room, few, late)))) = sits_then s t _ sits is refl
@@ -172,8 +164,7 @@ module _ (rings : Opened Limits) (k : ℕ) where
       looked-none : OnlyLooked s.who t.who → Looked on s.who t.who acts
       looked-none only = record {
         these = [];
-        recorded = subst (λ (l : List Act). Known t.who l) (sym (append-nil acts))
-            (still_recorded k rings.logic rings.base s.who t.who acts so_far only);
+        recorded = rw append-nil (still_recorded k rings.logic rings.base s.who t.who acts so_far only);
         unsent = ap messages_of only.mine;
         taken_more = (λ i. taken (record s.who { seen = only.seen i; sequence = only.count i }))
             ∙ sym (append-nil (taken s.who));
@@ -181,8 +172,7 @@ module _ (rings : Opened Limits) (k : ℕ) where
 
       module _ (o : Output) (one : TakesOne s t o) where
         next : get_elem? (outputs_of rings.logic one.history) s.who.sequence ≡ some o
-        next = subst (λ (l : Limits). get_elem? (outputs_of l one.history) s.who.sequence ≡ some o)
-            (logic_is s sits) one.next
+        next = rw (logic_is s sits) at one.next
 
         looked-one : (these : List Said) → taken t.who ≡ taken s.who ++ these → Looked on s.who t.who acts
         looked-one these is = record {

@@ -1,7 +1,7 @@
 -- Where a session stands after each thing that a turn may do.
 use Rattle.std.proofs.Common.{◌≡◌, ◌≢◌, inl, inr, ℕ, ◌+◌, zero-add, Bool, true, false, List, [], ◌∷◌, ◌++◌, length}
-use Rattle.std.proofs.Common.{refl, ap, sym, subst, ◌∙◌, arith, append_assoc, append-nil, Option, Some, None, is_some}
-use Rattle.std.specs.List.{flat_map, list_all}
+use Rattle.std.proofs.Common.{refl, ap, sym, ◌∙◌, arith, append_assoc, append-nil, Option, Some, None}
+use Rattle.std.specs.List.{flat_map}
 use Rattle.fix_frame.specs.Grammar.{Field, IsBody, frame_text, most_in}
 use Rattle.fix_frame.specs.Stream.{BeginsNoFrame, Faults}
 use Rattle.fix_frame.specs.declared.FrameFault.{FrameFault}
@@ -10,49 +10,39 @@ use Rattle.gateway.specs.declared.ending.Reason.{Reason}
 use Rattle.gateway.specs.declared.ending.Reason.TheVariants.{LoggedOut, Refused, Exhausted}
 use Rattle.gateway.specs.declared.refusal.Refusal.TheVariants as refusal
 use Rattle.gateway.specs.Verdict.{Verdict, Welcome, Beat, Hold, Pass, Leave, Refuse, verdict, refusal_text}
-use Rattle.gateway.specs.Answers.{Judgement, judgement, judged, last_time, time_after, no_time, goes_on, Reply, Logon}
-use Rattle.gateway.specs.Answers.{Heartbeat, Logout, replies_of, replies_by, held_of, held_by, fault_judgement}
+use Rattle.gateway.specs.Answers.{Judgement, judgement, judged, last_time, time_after, no_time, goes_on, Logon}
+use Rattle.gateway.specs.Answers.{Heartbeat, Logout, replies_of, held_of, fault_judgement}
 use Rattle.gateway.specs.Answers.{exhausted_judgement, Ending}
-use Rattle.gateway.specs.Standing.{Standing, speaker, Spoken, said_by, message_text, Waits, Held, At}
+use Rattle.gateway.specs.Standing.{Standing, speaker, Spoken, Output, said_by, message_text, Waits, Held, At}
 use Rattle.gateway.specs.SessionCalls.{saying, closing_by, refusing, accepting, heard}
 use Rattle.gateway.proofs.Lists.{flat_map-push, list_all-push, AllByRecursion-push, length-push}
-use Rattle.gateway.proofs.Speaking.{spoken-output, spoken-logon, spoken-heartbeat, spoken-logout}
+use Rattle.gateway.proofs.Speaking.{or_true, or_false, spoken-item, spoken-reply}
 use Rattle.gateway.proofs.Opening.{Open, opened, closed, judged-push, last_time-push, no_frame_in_nothing}
 
 -- with the message that waits, those published are all those to hold
 waited : (message : List ℕ) (messages : List (List ℕ)) (js : List Judgement) → Waits message messages js
     → messages ++ message ∷ [] ≡ flat_map held_of js
-waited message messages js waits =
-    let last_is : held_of waits.last ≡ message ∷ [] = ap (held_by waits.last.message) waits.hold
-    ∙ ap (λ m. m ∷ []) waits.message_is in
-    ap (λ ms. ms ++ message ∷ []) waits.published
-    ∙ ap (λ ms. flat_map held_of waits.before ++ ms) (sym last_is)
-    ∙ sym (flat_map-push held_of waits.before waits.last)
-    ∙ ap (flat_map held_of) (sym waits.judgements_are)
+waited message messages js waits = cc (flat_map-push held_of waits.before waits.last)
 
 module _ (s : Standing) (input : List ℕ) (messages : List (List ℕ)) (outs : List Said) (written : List ℕ) where
   -- bytes went out
   pub at-flushed : (put rest : List ℕ) → s.outgoing ≡ put ++ rest → At s input messages outs written →
       At (record s { outgoing = rest }) input messages outs (written ++ put)
-  at-flushed put rest split at = record {
-    frames = at.frames;
-    lasts = at.lasts;
-    answers = at.answers;
-    spoken = subst (λ bytes. Spoken (speaker s.gateway s.number s.logged_on (is_some s.closing)) bytes
-        (flat_map replies_of (judged s.gateway 0 no_time at.frames ++ at.lasts)) outs)
-        (ap (λ o. written ++ o) split ∙ sym (append_assoc written put rest)) at.spoken;
-    held = at.held;
-    accepted = at.accepted;
-    time = at.time;
+  at-flushed put rest split stands = record {
+    frames = stands.frames;
+    lasts = stands.lasts;
+    answers = stands.answers;
+    spoken = rw (append_assoc, ← split) stands.spoken;
+    held = stands.held;
+    accepted = stands.accepted;
+    time = stands.time;
   }
 
   -- the message held was published
   pub at-published : (message : List ℕ) → s.held ≡ Some message → s.closing ≡ None → At s input messages outs written →
       At (record s { held = None }) input (messages ++ message ∷ []) outs written
-  at-published message is_held is_open at =
-      let o = opened s input messages outs written is_open at in
-      let js = judged s.gateway 0 no_time o.frames in
-      let waits = subst (λ (h : Option (List ℕ)). Held h None messages js) is_held o.held in
+  at-published message is_held is_open stands =
+      let o = opened s input messages outs written is_open stands in
       closed (record s { held = None }) input (messages ++ message ∷ []) outs written is_open (record {
         frames = o.frames;
         cut = o.cut;
@@ -60,7 +50,7 @@ module _ (s : Standing) (input : List ℕ) (messages : List (List ℕ)) (outs : 
         all_go_on = o.all_go_on;
         partial = o.partial;
         spoken = o.spoken;
-        held = waited message messages js waits;
+        held = waited message messages (judged s.gateway 0 no_time o.frames) (simp is_held at o.held);
         accepted = o.accepted;
         time = o.time;
       })
@@ -68,18 +58,16 @@ module _ (s : Standing) (input : List ℕ) (messages : List (List ℕ)) (outs : 
   -- an output was handed on
   pub at-handed : (said : Said) → s.logged_on ≡ true → s.closing ≡ None → At s input messages outs written →
       At (saying said s) input messages (outs ++ said ∷ []) written
-  at-handed said logged_on is_open at =
-      let o = opened s input messages outs written is_open at in
+  at-handed said logged_on is_open stands =
+      let o = opened s input messages outs written is_open stands in
       closed (saying said s) input messages (outs ++ said ∷ []) written is_open (record {
         frames = o.frames;
         cut = o.cut;
         bodies = o.bodies;
         all_go_on = o.all_go_on;
         partial = o.partial;
-        spoken = subst (λ (b : List ℕ). Spoken (speaker s.gateway (s.number + 1) s.logged_on false) b
-            (flat_map replies_of (judged s.gateway 0 no_time o.frames)) (outs ++ said ∷ []))
-            (append_assoc written s.outgoing (message_text s.gateway s.number said))
-            (spoken-output o.spoken said logged_on);
+        spoken = rw (or_false, append-nil, append_assoc) at
+            (spoken-item (Output said) o.spoken (rw logged_on));
         held = o.held;
         accepted = o.accepted;
         time = o.time;
@@ -89,8 +77,8 @@ module _ (s : Standing) (input : List ℕ) (messages : List (List ℕ)) (outs : 
   pub at-fed : (bytes : List ℕ) → s.closing ≡ None → BeginsNoFrame (s.under_way ++ bytes)
       → At s input messages outs written →
       At (record s { under_way = s.under_way ++ bytes }) (input ++ bytes) messages outs written
-  at-fed bytes is_open partial at =
-      let o = opened s input messages outs written is_open at in
+  at-fed bytes is_open partial stands =
+      let o = opened s input messages outs written is_open stands in
       closed (record s { under_way = s.under_way ++ bytes }) (input ++ bytes) messages outs written is_open (record {
         frames = o.frames;
         cut = ap (λ i. i ++ bytes) o.cut ∙ append_assoc (flat_map frame_text o.frames) s.under_way bytes;
@@ -103,6 +91,15 @@ module _ (s : Standing) (input : List ℕ) (messages : List (List ℕ)) (outs : 
         time = o.time;
       })
 
+  module _ (o : Open s input messages outs written) where
+    -- a Logout is the last that is said
+    logout-said : (j : Judgement) (time text : List ℕ) → replies_of j ≡ Logout time text ∷ [] →
+        Spoken (speaker s.gateway (s.number + 1) s.logged_on true)
+        (written ++ (s.outgoing ++ message_text s.gateway s.number (said_by (Logout time text))))
+        (flat_map replies_of (judged s.gateway 0 no_time o.frames ++ j ∷ [])) outs
+    logout-said j time text says =
+        rw (flat_map-push, says) (rw (or_false, append_assoc) at (spoken-reply o.spoken (Logout time text) refl))
+
   -- the session closes with a Logout, for what it has heard last
   module _ (o : Open s input messages outs written) (free : s.held ≡ None) where
     at-ended : (reason : Reason) → reason ≢ Exhausted → (j : Judgement) (text bytes left : List ℕ)
@@ -110,29 +107,18 @@ module _ (s : Standing) (input : List ℕ) (messages : List (List ℕ)) (outs : 
         Ending s.gateway o.frames (s.under_way ++ bytes) left (Some reason) (j ∷ []) →
         At (closing_by reason j.time text (record s { under_way = left })) (input ++ bytes) messages outs written
     at-ended reason other j text bytes left says ending =
-        let js = judged s.gateway 0 no_time o.frames in
-        let published : messages ≡ flat_map held_of js = subst (λ (h : Option (List ℕ)). Held h None messages js) free
-        o.held in
-        let replies_are : flat_map replies_of (js ++ j ∷ []) ≡ flat_map replies_of js ++ Logout j.time text ∷ [] =
-        flat_map-push replies_of js j ∙ ap (λ rs. flat_map replies_of js ++ rs) says in
         record {
           frames = o.frames;
           lasts = j ∷ [];
           answers = record {
             rest = s.under_way ++ bytes;
-            cut = ap (λ i. i ++ bytes) o.cut ∙ append_assoc (flat_map frame_text o.frames) s.under_way bytes;
+            cut = rw o.cut (append_assoc (flat_map frame_text o.frames) s.under_way bytes);
             bodies = o.bodies;
             accepted = o.all_go_on;
             ending = ending;
           };
-          spoken = subst (λ rs. Spoken (speaker s.gateway (s.number + 1) s.logged_on true)
-              (written ++ (s.outgoing ++ message_text s.gateway s.number (said_by (Logout j.time text)))) rs outs)
-              (sym replies_are)
-              (subst (λ (b : List ℕ). Spoken (speaker s.gateway (s.number + 1) s.logged_on true) b
-              (flat_map replies_of js ++ Logout j.time text ∷ []) outs)
-              (append_assoc written s.outgoing (message_text s.gateway s.number (said_by (Logout j.time text))))
-              (spoken-logout o.spoken j.time text));
-          held = subst (λ (h : Option (List ℕ)). Held h (Some reason) messages js) (sym free) (inl (other, published));
+          spoken = logout-said o j j.time text says;
+          held = rw free (inl (other, rw free at o.held));
           accepted = o.accepted;
           time = o.time;
         }
@@ -157,16 +143,11 @@ module _ (s : Standing) (input : List ℕ) (messages : List (List ℕ)) (outs : 
       the_judgement = judgement s.gateway s.accepted s.time frame
 
       j_is : the_judgement ≡ judgement s.gateway (length o.frames) (last_time no_time o.frames) frame
-      j_is = ap (λ n. judgement s.gateway n s.time frame) o.accepted
-          ∙ ap (λ t. judgement s.gateway (length o.frames) t frame) o.time
+      j_is = rw (o.accepted, o.time)
 
       judged_so : judged s.gateway 0 no_time (o.frames ++ frame ∷ [])
           ≡ judged s.gateway 0 no_time o.frames ++ the_judgement ∷ []
-      judged_so =
-          judged-push s.gateway 0 no_time o.frames frame
-          ∙ ap (λ n. judged s.gateway 0 no_time o.frames ++ judgement s.gateway n (last_time no_time o.frames) frame
-          ∷ []) (zero-add (length o.frames))
-          ∙ ap (λ j. judged s.gateway 0 no_time o.frames ++ j ∷ []) (sym j_is)
+      judged_so = rw (judged-push, zero-add, o.accepted, o.time)
 
       -- it is accepted
       at-accepted : (outgoing : List ℕ) (number : ℕ) (on : Bool) (held : Option (List ℕ)) →
@@ -179,65 +160,25 @@ module _ (s : Standing) (input : List ℕ) (messages : List (List ℕ)) (outs : 
           { outgoing = outgoing; number = number; logged_on = on; held = held }) (input ++ bytes) messages outs
           written
       at-accepted outgoing number on held goes spoken holds is_open =
-          let js = judged s.gateway 0 no_time o.frames in
           closed (record (accepting (time_after s.time frame) s)
           { outgoing = outgoing; number = number; logged_on = on; held = held }) (input ++ bytes) messages outs
           written is_open (record {
             frames = o.frames ++ frame ∷ [];
-            cut = ap (λ i. i ++ bytes) o.cut ∙ append_assoc (flat_map frame_text o.frames) s.under_way bytes
-                ∙ ap (λ r. flat_map frame_text o.frames ++ r) whole ∙ sym (flat_map-push frame_text o.frames frame)
-                ∙ sym (append-nil (flat_map frame_text (o.frames ++ frame ∷ [])));
+            cut = rw (o.cut, append_assoc, whole, flat_map-push, append-nil);
             bodies = AllByRecursion-push (IsBody most_in) o.frames frame o.bodies body;
-            all_go_on = subst (λ l. list_all (λ j. goes_on j.verdict) l ≡ true) (sym judged_so)
-                (list_all-push (λ j. goes_on j.verdict) js the_judgement o.all_go_on goes);
+            all_go_on = rw judged_so (list_all-push (λ j. goes_on j.verdict) (judged s.gateway 0 no_time o.frames)
+                the_judgement o.all_go_on goes);
             partial = no_frame_in_nothing;
-            spoken = subst (λ l. Spoken (speaker s.gateway number on false) (written ++ outgoing)
-                (flat_map replies_of l) outs) (sym judged_so)
-                (subst (λ rs. Spoken (speaker s.gateway number on false) (written ++ outgoing) rs outs)
-                (sym (flat_map-push replies_of js the_judgement)) spoken);
-            held = subst (λ l. Held held None messages l) (sym judged_so) holds;
+            spoken = rw (judged_so, flat_map-push) spoken;
+            held = rw judged_so holds;
             accepted = omega (arith, o.accepted, length-push o.frames frame);
-            time = ap (λ t. time_after t frame) o.time ∙ sym (last_time-push no_time o.frames frame);
+            time = rw (last_time-push, o.time);
           })
-
-      -- nothing is said to it
-      silent : replies_of the_judgement ≡ [] → Spoken (speaker s.gateway s.number s.logged_on false)
-          (written ++ s.outgoing) (flat_map replies_of (judged s.gateway 0 no_time o.frames)
-          ++ replies_of the_judgement) outs
-      silent none =
-          let replies = flat_map replies_of (judged s.gateway 0 no_time o.frames) in
-          subst (λ (rs : List Reply). Spoken (speaker s.gateway s.number s.logged_on false) (written ++ s.outgoing) rs
-          outs)
-          (sym (ap (λ rs. replies ++ rs) none ∙ append-nil replies)) o.spoken
-
-      -- a reply is said to it
-      replied : (reply : Reply) (on : Bool) → replies_of the_judgement ≡ reply ∷ [] →
-          Spoken (speaker s.gateway (s.number + 1) on false)
-          ((written ++ s.outgoing) ++ message_text s.gateway s.number (said_by reply))
-          (flat_map replies_of (judged s.gateway 0 no_time o.frames) ++ reply ∷ []) outs →
-          Spoken (speaker s.gateway (s.number + 1) on false)
-          (written ++ (s.outgoing ++ message_text s.gateway s.number (said_by reply)))
-          (flat_map replies_of (judged s.gateway 0 no_time o.frames) ++ replies_of the_judgement) outs
-      replied reply on one spoken =
-          let replies = flat_map replies_of (judged s.gateway 0 no_time o.frames) in
-          let bytes_are = append_assoc written s.outgoing (message_text s.gateway s.number (said_by reply)) in
-          subst (λ (rs : List Reply). Spoken (speaker s.gateway (s.number + 1) on false)
-          (written ++ (s.outgoing ++ message_text s.gateway s.number (said_by reply))) (replies ++ rs) outs)
-          (sym one)
-          (subst (λ (b : List ℕ). Spoken (speaker s.gateway (s.number + 1) on false) b (replies ++ reply ∷ []) outs)
-          bytes_are spoken)
 
       -- it isn't to be held
       not_held : held_of the_judgement ≡ [] → Held s.held None messages
           (judged s.gateway 0 no_time o.frames ++ the_judgement ∷ [])
-      not_held none =
-          let js = judged s.gateway 0 no_time o.frames in
-          let published : messages ≡ flat_map held_of js = subst (λ (h : Option (List ℕ)). Held h None messages js) free
-          o.held in
-          let all : messages ≡ flat_map held_of (js ++ the_judgement ∷ []) =
-          published ∙ sym (append-nil (flat_map held_of js)) ∙ ap (λ ms. flat_map held_of js ++ ms) (sym none)
-          ∙ sym (flat_map-push held_of js the_judgement) in
-          subst (λ (h : Option (List ℕ)). Held h None messages (js ++ the_judgement ∷ [])) (sym free) all
+      not_held none = rw (free, flat_map-push, none, append-nil) (rw free at o.held)
 
       ends_here : (s.under_way ++ bytes ≡ frame_text frame ++ [])
       ends_here = whole ∙ sym (append-nil (frame_text frame))
@@ -248,37 +189,33 @@ module _ (s : Standing) (input : List ℕ) (messages : List (List ℕ)) (outs : 
       at-heard Welcome e is_open =
           let time = time_after s.time frame in
           at-accepted (s.outgoing ++ message_text s.gateway s.number (said_by (Logon time))) (s.number + 1) true s.held
-          (ap goes_on e) (replied (Logon time) true (ap (replies_by time) e) (spoken-logon o.spoken time))
-          (not_held (ap (held_by (frame_text frame)) e)) is_open
+          (ap goes_on e) (rw e (rw (or_true, append_assoc) at (spoken-reply o.spoken (Logon time) refl)))
+          (not_held (rw e)) is_open
       at-heard (Beat echo) e is_open =
           let time = time_after s.time frame in
           at-accepted (s.outgoing ++ message_text s.gateway s.number (said_by (Heartbeat time echo))) (s.number + 1)
           s.logged_on s.held
-          (ap goes_on e) (replied (Heartbeat time echo) s.logged_on (ap (replies_by time) e)
-          (spoken-heartbeat o.spoken time echo))
-          (not_held (ap (held_by (frame_text frame)) e)) is_open
+          (ap goes_on e) (rw e (rw (or_false, append_assoc) at (spoken-reply o.spoken (Heartbeat time echo) refl)))
+          (not_held (rw e)) is_open
       at-heard Hold e is_open =
-          let js = judged s.gateway 0 no_time o.frames in
           at-accepted s.outgoing s.number s.logged_on (Some (frame_text frame))
-          (ap goes_on e) (silent (ap (replies_by (time_after s.time frame)) e))
+          (ap goes_on e) (rw (e, append-nil) o.spoken)
           (record {
-            before = js;
+            before = judged s.gateway 0 no_time o.frames;
             last = the_judgement;
             judgements_are = refl;
             hold = e;
             message_is = refl;
-            published = subst (λ (h : Option (List ℕ)). Held h None messages js) free o.held;
+            published = rw free at o.held;
           }) is_open
       at-heard Pass e is_open =
           at-accepted s.outgoing s.number s.logged_on s.held
-          (ap goes_on e) (silent (ap (replies_by (time_after s.time frame)) e))
-          (not_held (ap (held_by (frame_text frame)) e)) is_open
+          (ap goes_on e) (rw (e, append-nil) o.spoken) (not_held (rw e)) is_open
       at-heard Leave e is_open =
-          at-ended LoggedOut (λ is. cc) the_judgement [] bytes [] (ap (replies_by (time_after s.time frame)) e)
+          at-ended LoggedOut (λ is. cc) the_judgement [] bytes [] (rw e)
           (the_judgement, (frame, [], body, ends_here, j_is), e, refl)
       at-heard (Refuse r) e is_open =
-          at-ended Refused (λ is. cc) the_judgement (refusal_text r) bytes []
-          (ap (replies_by (time_after s.time frame)) e)
+          at-ended Refused (λ is. cc) the_judgement (refusal_text r) bytes [] (rw e)
           (the_judgement, inl (frame, [], body, ends_here, j_is), ap goes_on e, (λ leaves. cc), refl)
 
 -- the last judgement has the time of the last right header
@@ -299,19 +236,14 @@ module _ (s : Standing) (input : List ℕ) (messages : List (List ℕ)) (outs : 
   pub at-exhausted : (message : List ℕ) → s.held ≡ Some message → s.closing ≡ None → At s input messages outs written →
       At (record (closing_by Exhausted s.time (refusal_text refusal.Exhausted) s) { held = None }) input messages outs
       written
-  at-exhausted message is_held is_open at =
-      let o = opened s input messages outs written is_open at in
-      let js = judged s.gateway 0 no_time o.frames in
-      let waits = subst (λ (h : Option (List ℕ)). Held h None messages js) is_held o.held in
+  at-exhausted message is_held is_open stands =
+      let o = opened s input messages outs written is_open stands in
+      let waits : Waits message messages (judged s.gateway 0 no_time o.frames) = simp is_held at o.held in
       let time_is : s.time ≡ waits.last.time = o.time ∙ last_judged s.gateway 0 no_time o.frames waits.before waits.last
       waits.judgements_are in
-      let j = exhausted_judgement waits.last in
-      let text = refusal_text refusal.Exhausted in
-      let replies_are : flat_map replies_of (js ++ j ∷ []) ≡ flat_map replies_of js ++ Logout s.time text ∷ [] =
-      flat_map-push replies_of js j ∙ ap (λ t. flat_map replies_of js ++ Logout t text ∷ []) (sym time_is) in
       record {
         frames = o.frames;
-        lasts = j ∷ [];
+        lasts = exhausted_judgement waits.last ∷ [];
         answers = record {
           rest = s.under_way;
           cut = o.cut;
@@ -319,13 +251,9 @@ module _ (s : Standing) (input : List ℕ) (messages : List (List ℕ)) (outs : 
           accepted = o.all_go_on;
           ending = (waits.before, waits.last, waits.judgements_are, waits.hold, refl);
         };
-        spoken = subst (λ rs. Spoken (speaker s.gateway (s.number + 1) s.logged_on true)
-            (written ++ (s.outgoing ++ message_text s.gateway s.number (said_by (Logout s.time text)))) rs outs)
-            (sym replies_are)
-            (subst (λ (b : List ℕ). Spoken (speaker s.gateway (s.number + 1) s.logged_on true) b
-            (flat_map replies_of js ++ Logout s.time text ∷ []) outs)
-            (append_assoc written s.outgoing (message_text s.gateway s.number (said_by (Logout s.time text))))
-            (spoken-logout o.spoken s.time text));
+        spoken = logout-said s input messages outs written o (exhausted_judgement waits.last) s.time
+            (refusal_text refusal.Exhausted)
+            (ap (λ t. Logout t (refusal_text refusal.Exhausted) ∷ []) (sym time_is));
         held = inr (refl, message, waits);
         accepted = o.accepted;
         time = o.time;

@@ -1,8 +1,8 @@
 -- What a gateway has taken: the texts of outputs as their count grows.
-use Rattle.std.proofs.Common.{◌≡◌, ◌≢◌, ℕ, suc, ◌+◌, ◌^◌, ◌≤◌, Bool, true, false, List, [], ◌∷◌, ◌++◌, length, take}
+use Rattle.std.proofs.Common.{◌≡◌, ◌≢◌, ℕ, suc, ◌+◌, ◌^◌, ◌≤◌, true, false, List, [], ◌∷◌, ◌++◌, length, take}
 use Rattle.std.proofs.Common.{drop, ap, sym, ◌∙◌, arith, append-nil, length-drop, add-zero, take-append-drop}
 use Rattle.std.specs.Prelude.{◌==◌, if◌then◌else◌}
-use Rattle.std.proofs.lemmas.Bool.Decides.{nat_tests}
+use Rattle.std.proofs.lemmas.Bool.{eq-eqb, ne_eqb}
 use Rattle.std.proofs.lemmas.List.{length-take-le, take-append-le, drop-append-le}
 use mathlib.Core.Option.{some}
 use lib.ListN.{get_elem?}
@@ -43,28 +43,25 @@ taken-one_more : (k base_outputs : ℕ) (all : List Output) (count : ℕ) (o : O
     → base_outputs ≤ count →
     texts_to k base_outputs (drop base_outputs (take (suc count) all)) ≡ texts_to k base_outputs (drop base_outputs (take count all))
     ++ one_text k count o
-taken-one_more k base_outputs all count o at from =
-    let there = within all count o at in
+taken-one_more k base_outputs all count o stands from =
+    let there = within all count o stands in
     let front = length-take-le count all (omega (arith, there)) in
     let rest : List Output = drop base_outputs (take count all) in
     let behind = length-drop base_outputs (take count all) in
     let long : base_outputs + length rest ≡ count = omega (arith, front, behind) in
-    ap (λ (l : List Output). texts_to k base_outputs (drop base_outputs l)) (take_next all count o at)
-    ∙ ap (texts_to k base_outputs) (drop-append-le base_outputs (take count all) (o ∷ []) (omega (arith, front)))
-    ∙ texts-append k base_outputs rest (o ∷ []) ∙ ap (λ (n : ℕ). texts_to k base_outputs rest ++ one_text k n o) long
+    rw (
+      take_next all count o stands,
+      drop-append-le base_outputs (take count all) (o ∷ []) (omega (arith, front)),
+      texts-append,
+      long,
+    )
 
 -- what an output says that goes to gateway k, and one that goes to another
-is_same : (n k : ℕ) → n ≡ k → (n == k) ≡ true
-is_same n k same = grind (arith, nat_tests)
-
 mine : (k place : ℕ) (o : Output) → o.to ≡ k → one_text k place o ≡ text o place ∷ []
-mine k place o is = ap (λ (b : Bool). if b then text o place ∷ [] else []) (is_same o.to k is)
-
-is_other : (n k : ℕ) → n ≢ k → (n == k) ≡ false
-is_other n k other = grind (arith, nat_tests)
+mine k place o is = rw (eq-eqb o.to k is)
 
 others : (k place : ℕ) (o : Output) → o.to ≢ k → one_text k place o ≡ []
-others k place o other = ap (λ (b : Bool). if b then text o place ∷ [] else []) (is_other o.to k other)
+others k place o other = rw (ne_eqb o.to k other)
 
 -- TAKING
 
@@ -99,19 +96,17 @@ module _ (k : ℕ) (limits : Limits) (base history : List Message) (p q : Person
         let grown : history ≡ p.seen ++ rest = sym (take-append-drop (length p.seen) history)
         ∙ ap (λ (h : List Message). h ++ rest) (sym takes.begins) in
         let more = grows-by (reads_at limits) limits.symbols p.seen rest in
-        ap (λ (h : List Message). texts_to k base_outputs (drop base_outputs (take p.sequence (outputs_of limits h)))) grown
-        ∙ ap (λ (os : List Output). texts_to k base_outputs (drop base_outputs (take p.sequence os))) more.1
+        ap (λ (os : List Output). texts_to k base_outputs (drop base_outputs (take p.sequence os)))
+        (ap (outputs_of limits) grown ∙ more.1)
         ∙ ap (λ (os : List Output). texts_to k base_outputs (drop base_outputs os))
         (take-append-le p.sequence (outputs_of limits p.seen) more.0 to)
 
     one_more : taken_by k limits base q ≡ taken_by k limits base p ++ one_text k p.sequence o
-    one_more = ap (taken_by k limits base) takes.taken ∙ taken-one_more k base_outputs (outputs_of limits history) p.sequence o next
-        from
-        ∙ ap (λ (ts : List Said). ts ++ one_text k p.sequence o) stays
+    one_more = ap (taken_by k limits base) takes.taken
+        ∙ (rw stays at (taken-one_more k base_outputs (outputs_of limits history) p.sequence o next from))
 
     pub taken_mine : o.to ≡ k → taken_by k limits base q ≡ taken_by k limits base p ++ text o p.sequence ∷ []
-    taken_mine is = one_more ∙ ap (λ (ts : List Said). taken_by k limits base p ++ ts) (mine k p.sequence o is)
+    taken_mine is = rw (mine k p.sequence o is) at one_more
 
     pub taken_other : o.to ≢ k → taken_by k limits base q ≡ taken_by k limits base p
-    taken_other other = one_more ∙ ap (λ (ts : List Said). taken_by k limits base p ++ ts) (others k p.sequence o other)
-        ∙ append-nil (taken_by k limits base p)
+    taken_other other = rw (others k p.sequence o other, append-nil) at one_more

@@ -1,11 +1,10 @@
 -- A turn of a client's session carries the acceptor's life on.
 use Rattle.std.proofs.Common.{◌≡◌, ℕ, Bool, true, false, List, [], ◌∷◌, ◌++◌, map, refl, ap, sym}
-use Rattle.std.proofs.Common.{subst, ◌∙◌, append_assoc, append-nil, Option, Some, None}
+use Rattle.std.proofs.Common.{◌∙◌, append_assoc, append-nil, Option, Some, None}
 use Rattle.std.specs.Prelude.{if◌then◌else◌, option_to_list}
-use Rattle.std.specs.List.{flat_map, AllByRecursion}
+use Rattle.std.specs.List.{flat_map}
 use Rattle.std.proofs.lemmas.List.{map-append, append_cancel_left}
 use Rattle.std.proofs.lemmas.Grind.{flat_map-append}
-use Rattle.fix_orders.specs.Text.{Said}
 use Rattle.ring_words.specs.At.{Opened, At}
 use Rattle.venue_model.specs.Requests.{Limits}
 use Rattle.wires.specs.Wires.{Told}
@@ -23,24 +22,18 @@ use Rattle.gateway.proofs.Lists.{flat_map-push, AllByRecursion-push}
 use Rattle.gateway.proofs.RecordLemmas.{Recorded}
 use Rattle.gateway.proofs.SittingLemmas.{Sits, Entered, Looked, told, sits_still, entered, sits-entered, looked_at}
 use Rattle.gateway.proofs.VisitLemmas.{Fits, bytes_of, bytes-append, next_visit, next_fits, none_yet}
-use Rattle.gateway.proofs.LifeLemmas.{Running, Life, visits-push, came-push, gone-push}
+use Rattle.gateway.proofs.LifeLemmas.{Running, Life, came-push, gone-push}
 
 -- what happened before, in a visit so far, in it now, and the reports that came now
 regrouped : (done missed acts more reports : List Act) → ((done ++ (missed ++ acts)) ++ more) ++ reports
     ≡ done ++ (missed ++ (acts ++ (more ++ reports)))
-regrouped done missed acts more reports =
-    append_assoc (done ++ (missed ++ acts)) more reports ∙ append_assoc done (missed ++ acts) (more ++ reports)
-    ∙ ap (λ (l : List Act). done ++ l) (append_assoc missed acts (more ++ reports))
+regrouped done missed acts more reports = simp append_assoc
 
 -- where nothing happened in it but that reports were passed over
 regrouped-missed : (done missed acts more reports : List Act) → acts ++ more ≡ []
     → ((done ++ (missed ++ acts)) ++ more) ++ reports ≡ done ++ ((missed ++ reports) ++ (acts ++ more))
 regrouped-missed done missed acts more reports none =
-    regrouped done missed acts more reports
-    ∙ ap (λ (l : List Act). done ++ (missed ++ l)) (sym (append_assoc acts more reports)
-    ∙ ap (λ (l : List Act). l ++ reports) none)
-    ∙ sym (ap (λ (l : List Act). done ++ l) (ap (λ (l : List Act). (missed ++ reports) ++ l) none
-    ∙ append-nil (missed ++ reports)))
+    rw (regrouped done missed acts more reports, ← append_assoc acts more reports, none, append-nil)
 
 module _ (rings : Opened Limits) (k n : ℕ) (old new : Accepting) (came gone : List Told)
     (life : Life rings k old came gone) (turned : Turned) (now later : Told) (connected : old.wire ≡ Some now)
@@ -62,7 +55,7 @@ module _ (rings : Opened Limits) (k n : ℕ) (old new : Accepting) (came gone : 
   turn = proceeds.turn
 
   running : Running k old.gateway.front (Some now) life.running
-  running = subst (λ (w : Option Told). Running k old.gateway.front w life.running) connected life.now
+  running = rw connected at life.now
 
   abbrev visit : Visit
   visit = running.0
@@ -75,7 +68,7 @@ module _ (rings : Opened Limits) (k n : ℕ) (old new : Accepting) (came gone : 
       ∙ flat_map-push acts_in life.done (There visit)
 
   recorded : Recorded k rings.logic rings.base seat.who acts_before
-  recorded = subst (Recorded k rings.logic rings.base seat.who) parts_before life.recorded
+  recorded = rw parts_before at life.recorded
 
   abbrev between : At Limits
   between = uses.between
@@ -99,9 +92,8 @@ module _ (rings : Opened Limits) (k n : ℕ) (old new : Accepting) (came gone : 
   -- the reports that the look found are those that the turn took
   these_are : turn.takes.these ≡ looking.these
   these_are = append_cancel_left (taken_by k rings.logic rings.base seat.who) turn.takes.these looking.these
-      (ap (λ (ts : List Said). ts ++ turn.takes.these) (sym (told rings k seat life.sits))
-      ∙ sym turn.takes.taken ∙ told rings k seat_after sits_after ∙ looking.taken_more
-      ∙ ap (λ (ts : List Said). ts ++ looking.these) entering.untaken)
+      ((rw (told rings k seat life.sits) at (sym turn.takes.taken)) ∙ told rings k seat_after sits_after
+      ∙ (rw entering.untaken at looking.taken_more))
 
   -- the message that entered is the one that the turn published
   messages_are : turn.moved.messages ≡ bytes_of entering.more
@@ -120,15 +112,12 @@ module _ (rings : Opened Limits) (k n : ℕ) (old new : Accepting) (came gone : 
   turned_by true logged_on =
       let gives = map (reporting true) looking.these in
       let more = entering.more ++ gives in
-      let messages : turn.moved.messages ≡ bytes_of more = messages_are ∙ sym (append-nil (bytes_of entering.more))
-      ∙ sym (ap (λ es. bytes_of entering.more ++ map (λ e. e.bytes) es) (reporting-enters true looking.these))
-      ∙ sym (bytes-append entering.more gives) in
-      let handed : turn.moved.handed ≡ flat_map given_by more = turn.takes.given
-      ∙ ap (λ (b : Bool). if b then turn.takes.these else []) logged_on ∙ these_are ∙ sym (giving-gives looking.these)
-      ∙ sym (ap (λ (os : List Said). os ++ flat_map given_by gives) entering.ungiven)
-      ∙ sym (flat_map-append given_by entering.more gives) in
-      let unmissed : flat_map missed_by more ≡ [] = flat_map-append missed_by entering.more gives
-      ∙ ap (λ (os : List Said). os ++ flat_map missed_by gives) entering.unmissed ∙ giving-misses looking.these in (
+      let messages : turn.moved.messages ≡ bytes_of more =
+      rw (bytes-append, reporting-enters true looking.these, append-nil) messages_are in
+      let handed : turn.moved.handed ≡ flat_map given_by more =
+      rw (flat_map-append, entering.ungiven, giving-gives) (turn.takes.given
+      ∙ ap (λ (b : Bool). if b then turn.takes.these else []) logged_on ∙ these_are) in
+      let unmissed : flat_map missed_by more ≡ [] = rw (flat_map-append, entering.unmissed, giving-misses) in (
         next_visit k before behind turned turn visit running.1 false visit.missed (visit.acts ++ more),
         record {
           fits = λ quiet. next_fits k before behind turned turn visit running.1 quiet
@@ -150,10 +139,8 @@ module _ (rings : Opened Limits) (k n : ℕ) (old new : Accepting) (came gone : 
               missed entering.more messages_are handed entering.unmissed;
           came_is = refl;
           acts_are = ap (λ (b : Bool). (acts_before ++ entering.more) ++ map (reporting b) looking.these) off
-              ∙ regrouped-missed (flat_map acts_in life.done) (map Misses visit.missed) visit.acts entering.more
-              (map Misses looking.these) none
-              ∙ ap (λ (l : List Act). flat_map acts_in life.done ++ (l ++ (visit.acts ++ entering.more)))
-              (sym (map-append Misses visit.missed looking.these));
+              ∙ (rw map-append (regrouped-missed (flat_map acts_in life.done) (map Misses visit.missed) visit.acts
+              entering.more (map Misses looking.these) none));
         },
       )
 
@@ -165,26 +152,22 @@ module _ (rings : Opened Limits) (k n : ℕ) (old new : Accepting) (came gone : 
   visit_after quiet = record after.0 { gone = record behind.wire { quiet = quiet } }
 
   came_before : came_in life.done ++ visit.came ∷ [] ≡ came
-  came_before = sym (ap (λ (ps : List DayPart). came_in (life.done ++ ps)) running.2 ∙ came-push life.done visit)
-      ∙ life.came_are
+  came_before = rw (running.2, came-push) at life.came_are
 
   came_behind : (quiet : Bool) → came_in (life.done ++ There (visit_after quiet) ∷ []) ≡ came
-  came_behind quiet = came-push life.done (visit_after quiet)
-      ∙ ap (λ (w : Told). came_in life.done ++ w ∷ []) after.1.came_is ∙ came_before
+  came_behind quiet = rw (came-push, after.1.came_is) came_before
 
   recorded_behind : (quiet : Bool)
       → Recorded k rings.logic rings.base seat_after.who (flat_map acts_in
       (life.done ++ There (visit_after quiet) ∷ []))
-  recorded_behind quiet = subst (Recorded k rings.logic rings.base seat_after.who)
-      (after.1.acts_are ∙ sym (flat_map-push acts_in life.done (There (visit_after quiet)))) looking.recorded
+  recorded_behind quiet = rw flat_map-push (rw after.1.acts_are at looking.recorded)
 
   -- it goes on, whether its wire is told to rest or not
   pub goes_on : (quiet : Bool) → new.wire ≡ Some (record behind.wire { quiet = quiet }) → Life rings k new came gone
   goes_on quiet wire = record {
     done = life.done;
     running = There (visit_after quiet) ∷ [];
-    now = subst (λ (w : Option Told). Running k new.gateway.front w (There (visit_after quiet) ∷ [])) (sym wire)
-        (visit_after quiet, after.1.fits quiet, refl);
+    now = simp wire (visit_after quiet, after.1.fits quiet, refl);
     visits = life.visits;
     came_are = came_behind quiet;
     gone_are = life.gone_are;
@@ -193,49 +176,36 @@ module _ (rings : Opened Limits) (k n : ℕ) (old new : Accepting) (came gone : 
   }
 
   -- or it is over
-  pub is_over : new.wire ≡ None → Life rings k new came (gone ++ record behind.wire { quiet = true } ∷ [])
+  is_over : new.wire ≡ None → Life rings k new came (gone ++ record behind.wire { quiet = true } ∷ [])
   is_over wire =
       let v = visit_after true in
       let all = append-nil (life.done ++ There v ∷ []) in record {
         done = life.done ++ There v ∷ [];
         running = [];
-        now = subst (λ (w : Option Told). Running k new.gateway.front w []) (sym wire) refl;
-        visits = subst (AllByRecursion (IsVisit k)) (sym (visits-push life.done v))
+        now = rw wire refl;
+        visits = rw flat_map-push
             (AllByRecursion-push (IsVisit k) (flat_map visits_in life.done) v life.visits (after.1.fits true).visit);
-        came_are = ap came_in all ∙ came_behind true;
-        gone_are = gone-push life.done v ∙ ap (λ (ws : List Told). ws ++ v.gone ∷ []) life.gone_are;
+        came_are = rw all (came_behind true);
+        gone_are = rw (gone-push, life.gone_are);
         sits = sits_after;
-        recorded = subst (λ (ps : List DayPart). Recorded k rings.logic rings.base seat_after.who (flat_map acts_in ps))
-            (sym all) (recorded_behind true);
+        recorded = rw all (recorded_behind true);
       }
 
 module _ (rings : Opened Limits) (k n : ℕ) (old new : Accepting) (came gone : List Told)
-    (life : Life rings k old came gone)
-    (turned : Turned) (left : Option Told) (with_client : WithClient n old new turned left) where
-  abbrev now : Told
-  now = with_client.before
-
-  abbrev later : Told
-  later = with_client.behind
-
-  stays_on : (quiet : Bool) → new.wire ≡ Some (record later { quiet = quiet }) → Life rings k new came gone
-  stays_on = goes_on rings k n old new came gone life turned now later with_client.connected with_client.proceeds
-      with_client.uses
-
-  ends : new.wire ≡ None → Life rings k new came (gone ++ record later { quiet = true } ∷ [])
-  ends = is_over rings k n old new came gone life turned now later with_client.connected with_client.proceeds
-      with_client.uses
+    (life : Life rings k old came gone) (turned : Turned) (left : Option Told)
+    (w : WithClient n old new turned left) where
+  stays_on : (quiet : Bool) → new.wire ≡ Some (record w.behind { quiet = quiet }) → Life rings k new came gone
+  stays_on = goes_on rings k n old new came gone life turned w.before w.behind w.connected w.proceeds w.uses
 
   without_more : left ≡ None → Life rings k new came gone → Life rings k new came (gone ++ option_to_list left)
-  without_more none life_after = subst (λ (l : List Told). Life rings k new came l)
-      (sym (append-nil gone) ∙ ap (λ (w : Option Told). gone ++ option_to_list w) (sym none)) life_after
+  without_more none life_after = rw (none, append-nil) life_after
 
-  leaves : (answer : Turned) → Leaves answer later new.wire left
+  leaves : (answer : Turned) → Leaves answer w.behind new.wire left
       → Life rings k new came (gone ++ option_to_list left)
   leaves Worked (wire, none) = without_more none (stays_on false wire)
   leaves Quiet (wire, none) = without_more none (stays_on true wire)
-  leaves (Ended reason) (wire, is) = subst (λ (w : Option Told). Life rings k new came (gone ++ option_to_list w))
-      (sym is) (ends wire)
+  leaves (Ended reason) (wire, is) =
+      rw is (is_over rings k n old new came gone life turned w.before w.behind w.connected w.proceeds w.uses wire)
 
   pub life-turns : Life rings k new came (gone ++ option_to_list left)
-  life-turns = leaves turned with_client.leaves
+  life-turns = leaves turned w.leaves

@@ -1,5 +1,5 @@
 -- A visit goes on by a turn of its session.
-use Rattle.std.proofs.Common.{◌≡◌, ℕ, Bool, false, List, [], ◌∷◌, ◌++◌, map, refl, ap, sym, subst}
+use Rattle.std.proofs.Common.{◌≡◌, ℕ, Bool, false, List, [], ◌∷◌, ◌++◌, map, refl, ap, sym}
 use Rattle.std.proofs.Common.{◌∙◌, append_assoc}
 use Rattle.std.specs.List.{flat_map}
 use Rattle.std.proofs.lemmas.List.{map-append}
@@ -26,16 +26,11 @@ abbrev pub bytes_of : List Act → List (List ℕ)
 bytes_of acts = map (λ (e : Entry). e.bytes) (flat_map entered_by acts)
 
 pub bytes-append : (acts more : List Act) → bytes_of (acts ++ more) ≡ bytes_of acts ++ bytes_of more
-bytes-append acts more = ap (map (λ (e : Entry). e.bytes)) (flat_map-append entered_by acts more)
-    ∙ map-append (λ (e : Entry). e.bytes) (flat_map entered_by acts) (flat_map entered_by more)
+bytes-append acts more = rw (flat_map-append, map-append)
 
 nothing_mapped : (es : List Entry) → map (λ (e : Entry). e.bytes) es ≡ [] → es ≡ []
 nothing_mapped [] is = refl
 nothing_mapped (e ∷ es) is = cc
-
-no_more : {A : Type 0} (xs ys : List A) → xs ++ ys ≡ [] → ys ≡ []
-no_more [] ys is = is
-no_more (x ∷ xs) ys is = cc
 
 module _ (k : ℕ) (old new : World) (answer : Turned) (turn : Turn old new answer) (v : Visit)
     (fits : Fits k old.front old.wire v) where
@@ -57,37 +52,23 @@ module _ (k : ℕ) (old new : World) (answer : Turned) (turn : Turn old new answ
   moves : At new.front.session (v.heard ++ m.fed) (bytes_of v.acts ++ m.messages) (flat_map given_by v.acts ++ m.handed)
       (v.written ++ m.put)
   moves = turn.step.moves v.heard (bytes_of v.acts) (flat_map given_by v.acts) v.written
-      (subst (λ (s : Standing). At s v.heard (bytes_of v.acts)
-      (flat_map given_by v.acts) v.written) fits.session fits.visit.stands)
+      (rw fits.session at fits.visit.stands)
 
   gave : new.wire.gave ≡ grown v.came.gave ((v.heard ++ m.fed) ++ new.front.waiting)
   gave =
-      let all : (v.heard ++ v.unheard) ++ m.got ≡ (v.heard ++ m.fed) ++ new.front.waiting =
-      append_assoc v.heard v.unheard m.got ∙ ap (λ (l : List ℕ). v.heard ++ (l ++ m.got)) fits.unheard
-      ∙ ap (λ (l : List ℕ). v.heard ++ l) (sym turn.step.input) ∙ sym (append_assoc v.heard m.fed new.front.waiting) in
-      turn.step.gave ∙ ap (λ (w : Told). grown w.gave m.got) (sym fits.gone) ∙ ap (λ t. grown t m.got) fits.visit.gave
-      ∙ grown-append v.came.gave (v.heard ++ v.unheard) m.got ∙ ap (grown v.came.gave) all
+      simp (turn.step.gave, ← fits.gone, fits.visit.gave, grown-append, append_assoc, fits.unheard, ← turn.step.input)
 
   took : new.wire.took ≡ grown v.came.took (v.written ++ m.put)
-  took = turn.step.took ∙ ap (λ (w : Told). grown w.took m.put) (sym fits.gone)
-      ∙ ap (λ t. grown t m.put) fits.visit.took
-      ∙ grown-append v.came.took v.written m.put
+  took = simp (turn.step.took, ← fits.gone, fits.visit.took, grown-append)
 
   next_stands : (more : List Act) → m.messages ≡ bytes_of more → m.handed ≡ flat_map given_by more
       → At new.front.session (v.heard ++ m.fed) (bytes_of (v.acts ++ more)) (flat_map given_by (v.acts ++ more))
       (v.written ++ m.put)
   next_stands more messages handed =
-      subst (λ (ms : List (List ℕ)). At new.front.session (v.heard ++ m.fed) ms (flat_map given_by (v.acts ++ more))
-      (v.written ++ m.put))
-      (ap (λ (ms : List (List ℕ)). bytes_of v.acts ++ ms) messages ∙ sym (bytes-append v.acts more))
-      (subst (λ (os : List Said). At new.front.session (v.heard ++ m.fed) (bytes_of v.acts ++ m.messages) os
-      (v.written ++ m.put))
-      (ap (λ (os : List Said). flat_map given_by v.acts ++ os) handed ∙ sym
-      (flat_map-append given_by v.acts more)) moves)
+      rw (bytes-append v.acts more, flat_map-append given_by v.acts more) (simp (messages, handed) at moves)
 
   next_unmissed : (more : List Act) → flat_map missed_by more ≡ [] → flat_map missed_by (v.acts ++ more) ≡ []
-  next_unmissed more unmissed = flat_map-append missed_by v.acts more
-      ∙ ap (λ (os : List Said). os ++ flat_map missed_by more) fits.visit.none_missed ∙ unmissed
+  next_unmissed more unmissed = rw (flat_map-append, fits.visit.none_missed) unmissed
 
   -- with more acts that enter the messages published, give what was handed on, and pass nothing over
   pub next_fits : (quiet : Bool) (missed : List Said) (more : List Act) → m.messages ≡ bytes_of more → m.handed

@@ -75,7 +75,7 @@ impl<W: Wire + Drop> Acceptor<W> {
     }
 
     /// A client has come: its session begins.
-    pub fn admit(&mut self, wire: W)
+    pub fn admit(&mut self, wire: W) // promise 12
         requires free { self.old.wire ≡ None }
         ensures { Admits self.old (W.tells wire) self.new }
     {
@@ -90,7 +90,7 @@ impl<W: Wire + Drop> Acceptor<W> {
     pub fn turn<const N: usize, const M: usize, const G: usize>(
         &mut self,
         rings: &Rings<BookLogic, N, M, G>,
-    ) -> (Turned, Option<W>)
+    ) -> (Turned, Option<W>) // promise 12
         requires at { IsAt rings.now self.old.gateway.seat }
         ensures turn { TakesTurn N self.old self.new result.0 (told_by W.tells result.1) }
         ensures stays { StaysSeated self.old.gateway.seat self.new.gateway.seat }
@@ -107,14 +107,14 @@ impl<W: Wire + Drop> Acceptor<W> {
     }
 
     /// Whether a client's message waits to be published.
-    pub fn is_holding(&self) -> bool
+    pub fn is_holding(&self) -> bool // promise 12
         ensures { result ≡ is_some self.now.gateway.front.session.held }
     {
         self.gateway.is_holding()
     }
 
     /// Whether a client is connected with whom the gateway has to go on by itself.
-    pub fn is_pressed(&self) -> bool
+    pub fn is_pressed(&self) -> bool // promise 12
         ensures { result ≡ (is_some self.now.wire && is_pressed self.now.gateway.front) }
     {
         self.wire.is_some() && self.gateway.is_pressed()

@@ -74,7 +74,7 @@ impl Gateway {
     pub fn new(
         alloc: Global,
         seat: GatewaySeat<BookLogic>,
-    ) -> Result<Gateway, (AllocError, GatewaySeat<BookLogic>)>
+    ) -> Result<Gateway, (AllocError, GatewaySeat<BookLogic>)> // promise 10
         requires { HasSeen seat }
         ensures made { IfOk result (λ g. g ≡ record { front = record (begun (number seat) 0) { live = false }; seat = seat }) }
         ensures back { IfErr result (λ e. e.1 ≡ seat) }
@@ -96,7 +96,7 @@ impl Gateway {
     }
 
     /// Begins a new session of the client.
-    pub fn begin(&mut self)
+    pub fn begin(&mut self) // promise 10
         ensures new { self.new ≡ record self.old { front = begun (number self.old.seat) self.old.front.passed } }
         ensures begins { BeginsSession self.new }
     {
@@ -113,7 +113,7 @@ impl Gateway {
         &mut self,
         rings: &Rings<BookLogic, N, M, G>,
         wire: &mut W,
-    ) -> Turned
+    ) -> Turned // promise 10
         requires live { self.old.front.live ≡ true }
         requires at { IsAt rings.now self.old.seat }
         ensures turn { Proceeds N self.old self.new (W.tells wire.old) (W.tells wire.new) result }
@@ -142,7 +142,7 @@ impl Gateway {
     pub fn idle<const N: usize, const M: usize, const G: usize>(
         &mut self,
         rings: &Rings<BookLogic, N, M, G>,
-    ) -> Turned
+    ) -> Turned // promise 10
         requires off { self.old.front.live ≡ false }
         requires at { IsAt rings.now self.old.seat }
         ensures idles { Idles self.old.front self.new.front (ledger_of N self.old.seat) (ledger_of N self.new.seat) result }
@@ -183,14 +183,14 @@ impl Gateway {
     }
 
     /// How many outputs to the client were passed over, since it wasn't logged on.
-    pub fn passed(&self) -> u64
+    pub fn passed(&self) -> u64 // promise 10
         ensures { result ≡ self.now.front.passed }
     {
         self.passed
     }
 
     /// Gives the seat back, which has published at each place that it claimed.
-    pub fn end(self) -> GatewaySeat<BookLogic>
+    pub fn end(self) -> GatewaySeat<BookLogic> // promise 10
         ensures seat { result ≡ self.seat }
         ensures seen { HasSeen result }
     {

@@ -24,6 +24,7 @@ use Rattle.price_levels.proofs.Ends.{Searched, leave-within, at-its-level, leave
 use Rattle.price_levels.proofs.Ends.{whole}
 
 pub record Found (nodes : List Node) (l : Laddered) (p : ℕ) (n : Node) (o : Order) (r : Rung) : Type 0 where
+  pub are : AreLevels nodes (all l)
   pub read : node_at nodes p ≡ n
   pub here : order_at nodes p ≡ Some o
   pub rung : IsRung l r
@@ -43,12 +44,13 @@ node-read nodes p n some is =
     let it = stands-some nodes p some in
     get_or_default nodes p vacant n (within-nodes nodes p it.0 it.1) ∙ sym is
 
-pub found : (nodes : List Node) (l : Laddered) (p : ℕ) (n : Node) (o : Order) (r : Rung) (k : Key)
-    → order_at nodes p ≢ None → n ≡ get_or nodes p n → n.order ≡ Some o → k ≡ key_of o
+pub found : {nodes : List Node} {l : Laddered} {p : ℕ} {n : Node} {o : Order} {r : Rung} {k : Key}
+    → AreLevels nodes (all l) → order_at nodes p ≢ None → n ≡ get_or nodes p n → n.order ≡ Some o → k ≡ key_of o
     → IsRung l r → IsHome l r k.symbol k.side → Searched k (all l) (rung_number l r) → Found nodes l p n o r
-found nodes l p n o r k some n_is o_is k_is rung home search =
+found {nodes} {l} {p} {n} {r = r} are some n_is o_is k_is rung home search =
     let read = node-read nodes p n some n_is in
     record {
+      are = are;
       read = read;
       here = ap (λ (m : Node). m.order) read ∙ o_is;
       rung = rung;
@@ -61,21 +63,20 @@ standing-few [] = omega arith
 standing-few (None ∷ ps) = let rest = standing-few ps in omega (arith, rest)
 standing-few (Some o ∷ ps) = let rest = standing-few ps in omega (arith, rest)
 
-module _ {nodes : List Node} {l : Laddered} {p : ℕ} {n : Node} {o : Order} {r : Rung} (are : AreLevels nodes (all l))
-    (it : Found nodes l p n o r) where
+module _ {nodes : List Node} {l : Laddered} {p : ℕ} {n : Node} {o : Order} {r : Rung} (it : Found nodes l p n o r) where
   within : rung_number l r < length (all l)
-  within = leave-within nodes (all l) are p o it.here (rung_number l r) it.search
+  within = leave-within nodes (all l) it.are p o it.here (rung_number l r) it.search
 
   its-level : (m : Level) × (m ≡ get_or (all l) (rung_number l r) m)
   its-level =
-      let some = (has-level nodes (all l) are p o it.here).0 in
+      let some = (has-level nodes (all l) it.are p o it.here).0 in
       let m = get_or (all l) (rung_number l r) some in
       (m, get_or_default (all l) (rung_number l r) some m within)
 
   pub on : IsOn l r
   on =
       let m = its-level.0 in
-      let key = (at-its-level nodes (all l) are p o it.here (rung_number l r) it.search m its-level.1).key in
+      let key = (at-its-level nodes (all l) it.are p o it.here (rung_number l r) it.search m its-level.1).key in
       let rung = it.rung in
       let whole = cut l.ladders r.ladder rung.ladder in
       record {
@@ -94,10 +95,10 @@ module _ {nodes : List Node} {l : Laddered} {p : ℕ} {n : Node} {o : Order} {r 
   pub next-fits : r.at + 1 < 2 ^ 64
   next-fits =
       let lt = within in
-      let no_more = few nodes (all l) are in
+      let no_more = few nodes (all l) it.are in
       let stand = standing-few (places_of nodes) in
       let long = length-map nodes (λ (n : Node). n.order) in
-      let fits = are.bounds.fits in
+      let fits = it.are.bounds.fits in
       omega (arith, lt, no_more, stand, long, fits)
 
   -- the first order there is the next one, where it has no neighbour
@@ -106,47 +107,51 @@ module _ {nodes : List Node} {l : Laddered} {p : ℕ} {n : Node} {o : Order} {r 
       → MatchOption q (NoneBehind (places_of nodes) p) (λ b. NextBehind (places_of nodes) p b.0)
   next-found none q is =
       let next : rung_number l (record { ladder = r.ladder; at = r.at + 1 }) ≡ rung_number l r + 1 = omega arith in
-      next-level nodes (all l) are p o it.here (rung_number l r) (ap (λ (m : Node). m.next) it.read ∙ none)
+      next-level nodes (all l) it.are p o it.here (rung_number l r) (ap (λ (m : Node). m.next) it.read ∙ none)
       it.search q (is ∙ ap (first_in o.symbol o.side (all l)) next)
 
-  -- its neighbours are nodes, and meet when it leaves
-  pub prev-within : IsWithinNodes nodes n.prev
-  prev-within = prev-in nodes (all l) are p o it.here n.prev (ap (λ (m : Node). m.prev) it.read)
-
-  pub next-within : IsWithinNodes nodes n.next
-  next-within = next-in nodes (all l) are p o it.here n.next (ap (λ (m : Node). m.next) it.read)
+  -- it and its neighbours are nodes, and these meet when it leaves
+  pub all-within : (p < length nodes) × IsWithinNodes nodes n.prev × IsWithinNodes nodes n.next
+  all-within = (
+    within-nodes nodes p o it.here,
+    prev-in nodes (all l) it.are p o it.here n.prev (ap (λ (m : Node). m.prev) it.read),
+    next-in nodes (all l) it.are p o it.here n.next (ap (λ (m : Node). m.next) it.read),
+  )
 
   gone-seen : Seen nodes (nodes_without nodes p n.prev n.next) p None
-  gone-seen = without-seen nodes p n.prev n.next prev-within next-within (within-nodes nodes p o it.here)
+  gone-seen = without-seen nodes p n.prev n.next all-within.1 all-within.2 all-within.0
 
   pub gone-places : places_of (nodes_without nodes p n.prev n.next) ≡ slice_set (places_of nodes) p None
   gone-places = gone-seen.places
 
   -- the list of free places has room for one more
-  pub gone-room : (free : List ℕ) → IsArena nodes free → length free < length nodes
-  gone-room free arena =
+  pub gone-room : {free : List ℕ} → IsArena nodes free → length free < length nodes
+  gone-room {free} arena =
       let all = (given nodes (nodes_without nodes p n.prev n.next) free p o arena it.here gone-seen).all in
       let long = gone-seen.long in
       let parts = length-append free (p ∷ []) in
       omega (arith, all, long, parts)
 
-  pub gone-levels : (nodes' : List Node) (free free' : List ℕ) (levels' : List Level) (q : ℕ) → IsArena nodes free
+  pub gone-levels : {nodes' : List Node} {free free' : List ℕ} {levels' : List Level} {q : ℕ} → IsArena nodes free
       → nodes' ≡ nodes_without nodes p n.prev n.next → free' ≡ free ++ p ∷ []
       → ((m : Level) → m ≡ get_or (all l) (rung_number l r) m
       → levels' ≡ levels_with (all l) (rung_number l r) (level_without m n.prev n.next q)) → q ≡ leaves o
       → IsLevels nodes' free' levels'
-  gone-levels nodes' free free' levels' q arena nodes_are free_is levels_are left =
+  gone-levels {nodes'} {free} {free'} {levels'} arena nodes_are free_is levels_are left =
       let at = rung_number l r in
       let m = its-level.0 in
       whole nodes' (nodes_without nodes p n.prev n.next) free' (free ++ p ∷ []) levels'
       (levels_with (all l) at (level_without m n.prev n.next (leaves o))) nodes_are free_is
       (levels_are m its-level.1 ∙ ap (λ x. levels_with (all l) at (level_without m n.prev n.next x)) left)
       (given nodes (nodes_without nodes p n.prev n.next) free p o arena it.here gone-seen)
-      (leave-levels nodes (all l) are p o it.here at it.search m its-level.1 n.prev n.next
+      (leave-levels nodes (all l) it.are p o it.here at it.search m its-level.1 n.prev n.next
       (ap (λ (m : Node). m.prev) it.read) (ap (λ (m : Node). m.next) it.read))
 
   -- another order stands in its place
-  module _ {y : Order} (replaces : Replaces o y) where
+  module _ (y : Order) (change : IsChange (order_at nodes p) y) where
+    pub replaces : Replaces o y
+    replaces = subst (λ x. IsChange x y) it.here change
+
     as-read : (P : List Node → Type 0) → P (slice_set nodes p (record (node_at nodes p) { order = Some y }))
         → P (slice_set nodes p (record n { order = Some y }))
     as-read P is = subst (λ (m : Node). P (slice_set nodes p (record m { order = Some y }))) it.read is
@@ -163,18 +168,17 @@ module _ {nodes : List Node} {l : Laddered} {p : ℕ} {n : Node} {o : Order} {r 
     changed-free free arena = as-read (λ new. IsArena new free)
         (stays nodes (slice_set nodes p (record (node_at nodes p) { order = Some y })) free p o y arena it.here changed)
 
-    module _ (m : Level) (m_is : m ≡ get_or (all l) (rung_number l r) m) where
+    -- its level, and what that has left then: so much without the one, and with the other
+    module _ {m : Level} (m_is : m ≡ get_or (all l) (rung_number l r) m) where
       pub changed-fits : m.left - leaves o + leaves y < 2 ^ 64
-      changed-fits = change-fits nodes (all l) are p o it.here (rung_number l r) it.search m m_is y
-          replaces.no_more
+      changed-fits = change-fits nodes (all l) it.are p o it.here (rung_number l r) it.search m m_is y replaces.no_more
 
-      pub changed-levels : (left : ℕ) (levels' : List Level) → left ≡ m.left - leaves o + leaves y
-          → levels' ≡ slice_set (all l) (rung_number l r) (record m { left = left })
+      pub changed-levels : {without old new : ℕ} {levels' : List Level} → without ≡ m.left - old → old ≡ leaves o
+          → new ≡ leaves y → levels' ≡ slice_set (all l) (rung_number l r) (record m { left = without + new })
           → AreLevels (slice_set nodes p (record n { order = Some y })) levels'
-      changed-levels left levels' left_is is = as-read (λ new. AreLevels new levels')
-          (subst (AreLevels (slice_set nodes p (record (node_at nodes p) { order = Some y })))
-          (sym (is ∙ ap (λ x. slice_set (all l) (rung_number l r) (record m { left = x })) left_is))
-          (change-levels nodes (all l) are p o it.here (rung_number l r) it.search m m_is y replaces))
+      changed-levels {levels' = levels'} without_is old_is new_is is = as-read (λ new. AreLevels new levels')
+          (rw (is, without_is, old_is, new_is)
+          (change-levels nodes (all l) it.are p o it.here (rung_number l r) it.search m m_is y replaces))
 
 -- the neighbour that was read is the next order behind it
 pub read-neighbour : (nodes : List Node) (levels : List Level) (p : ℕ) (n : Node) (q : ℕ) → AreLevels nodes levels
@@ -187,9 +191,3 @@ read-neighbour nodes levels p n q are some is next =
 pub change-stands : (x : Option Order) (y : Order) → IsChange x y → x ≢ None
 change-stands None y change = λ is. change
 change-stands (Some o) y change = λ is. let e : Some o ≡ None = is in cc
-
--- the change that is asked for, of the order that stands
-pub replaces-it : (nodes : List Node) (p : ℕ) (n : Node) (o y : Order) → n ≡ get_or nodes p n → n.order ≡ Some o
-    → IsChange (order_at nodes p) y → Replaces o y
-replaces-it nodes p n o y n_is o_is change = subst (λ z. IsChange z y)
-    (ap (λ (m : Node). m.order) (node-read nodes p n (change-stands (order_at nodes p) y change) n_is) ∙ o_is) change

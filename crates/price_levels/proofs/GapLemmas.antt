@@ -40,16 +40,20 @@ module _ {X : Type 0} (xs : List X) (start : ℕ) where
       (drop_at (take t xs) (take n shown) t (length-take-le t xs (omega (arith, ahead, le))))
       ∙ ap (λ m. take m shown ++ drop (t + m) xs) few
 
-  pub comes-ahead : (t j : ℕ) (x : X) → start ≡ t + 1 → start + j ≤ length xs
-      → drop t (slice_set (copy_within xs start (start + j) t) (t + j) x) ≡ insert shown j x
-  comes-ahead t j x next le =
+  pub comes-ahead : (j : ℕ) (x : X) → 0 < start → start + j ≤ length xs
+      → drop (start - 1) (slice_set (copy_within xs start (start + j) (start - 1)) (start + j - 1) x)
+      ≡ insert shown j x
+  comes-ahead j x some le =
+      let t = start - 1 in
+      let place : start + j - 1 ≡ t + j = omega (arith, some) in
       let rest = length-drop start xs in
       let long = length-take-le j shown (omega (arith, le, rest)) in
       let free = get_or xs (t + j) x in
-      let far : suc (t + j) ≡ start + j = omega (arith, next) in
-      drop-set-add t (copy_within xs start (start + j) t) j x
-      ∙ ap (λ ys. slice_set ys j x) (moved t j (omega (arith, next)) le
-      ∙ ap (λ ys. take j shown ++ ys) (drop-cons xs (t + j) x (omega (arith, next, le))))
+      let far : suc (t + j) ≡ start + j = omega (arith, some) in
+      ap (λ n. drop t (slice_set (copy_within xs start (start + j) t) n x)) place
+      ∙ drop-set-add t (copy_within xs start (start + j) t) j x
+      ∙ ap (λ ys. slice_set ys j x) (moved t j (omega (arith, some)) le
+      ∙ ap (λ ys. take j shown ++ ys) (drop-cons xs (t + j) x (omega (arith, some, le))))
       ∙ ap (λ n. slice_set (take j shown ++ free ∷ drop (suc (t + j)) xs) n x) (sym long)
       ∙ set-append_seam (take j shown) free (drop (suc (t + j)) xs) x
       ∙ ap (λ ys. take j shown ++ x ∷ ys) (ap (λ n. drop n xs) far ∙ sym (drop-drop j start xs))

@@ -10,7 +10,9 @@ use Rattle.price_levels.specs.declared.keys.Level.{Level}
 use Rattle.price_levels.specs.declared.nodes.Node.{Node}
 use Rattle.price_levels.specs.Places.{ComesLater, standing}
 use Rattle.price_levels.specs.Keys.{key_of, level_of}
-use Rattle.price_levels.specs.Arena.{order_at, places_of, holds, IsArena, AreLevels, IsLevels, nodes_with, levels_with}
+use Rattle.price_levels.specs.declared.ladders.Rung.{Rung}
+use Rattle.price_levels.specs.Arena.{order_at, places_of, holds, IsArena, AreLevels, nodes_with, levels_with}
+use Rattle.price_levels.specs.Ladders.{Laddered, NameLadders, StandInLadders, BelongsToHome, all, rung_number}
 use Rattle.price_levels.proofs.LevelLists.{IsLevelAt, Changes, found-holds, opened, replaced, level-is, none-there}
 use Rattle.price_levels.proofs.NodeLemmas.{Seen, within-nodes, with-seen}
 use Rattle.price_levels.proofs.ArenaLemmas.{taken-vacant, taken}
@@ -19,38 +21,69 @@ use Rattle.price_levels.proofs.Comings.{last-stands, come}
 use Rattle.price_levels.proofs.Totals.{few}
 use Rattle.price_levels.proofs.ShortenLemmas.{set-with}
 use Rattle.price_levels.proofs.Ends.{Searched, whole}
+use Rattle.price_levels.proofs.NamedLadders.{with-named}
 
 -- an order comes to the last of the free places: a search found where its level is or would be
-pub record Comes (nodes : List Node) (free : List ℕ) (levels : List Level) (place at : ℕ) (o : Order) (there : Bool)
-    : Type 0 where
+pub record Comes (nodes : List Node) (free : List ℕ) (ladders : Laddered) (place : ℕ) (rung : Rung) (o : Order)
+    (there : Bool) : Type 0 where
   pub arena : IsArena nodes (free ++ place ∷ [])
-  pub ordered : AreLevels nodes levels
-  pub search : Searched (key_of o) levels at
-  pub holds_is : holds levels at (key_of o) ≡ there
+  pub ordered : AreLevels nodes (all ladders)
+  pub named : NameLadders ladders.fences nodes
+  pub search : Searched (key_of o) (all ladders) (rung_number ladders rung)
+  pub holds_is : holds (all ladders) (rung_number ladders rung) (key_of o) ≡ there
   pub total : o.total ≤ 1000000
   pub later : ComesLater (places_of nodes) o
 
 -- as the code has taken the place, and searched for the level
-pub comes : {nodes : List Node} {before after : List ℕ} {levels : List Level} {pop : Option ℕ} {place at : ℕ}
-    {o : Order} {k : Key} {there : Bool} → IsLevels nodes before levels → before ≡ after ++ option_to_list pop
-    → pop ≡ Some place → k ≡ key_of o → Searched k levels at → there ≡ holds levels at k → o.total ≤ 1000000
-    → ComesLater (places_of nodes) o → Comes nodes after levels place at o there
-comes {nodes} {before} {after} {levels} {at = at} are free_is pop_is k_is search holds_is total later = record {
-  arena = subst (IsArena nodes) (free_is ∙ ap (λ x. after ++ option_to_list x) pop_is) are.arena;
-  ordered = are.ordered;
-  search = subst (λ j. Searched j levels at) k_is search;
-  holds_is = ap (holds levels at) (sym k_is) ∙ sym holds_is;
+pub comes : {nodes : List Node} {before after : List ℕ} {ladders : Laddered} {pop : Option ℕ} {place : ℕ} {rung : Rung}
+    {o : Order} {k : Key} {there : Bool} → StandInLadders nodes before ladders
+    → before ≡ after ++ option_to_list pop → pop ≡ Some place → k ≡ key_of o
+    → Searched k (all ladders) (rung_number ladders rung)
+    → there ≡ holds (all ladders) (rung_number ladders rung) k → o.total ≤ 1000000 → ComesLater (places_of nodes) o
+    → Comes nodes after ladders place rung o there
+comes {nodes} {before} {after} {ladders} {rung = rung} are free_is pop_is k_is search holds_is total later = record {
+  arena = subst (IsArena nodes) (free_is ∙ ap (λ x. after ++ option_to_list x) pop_is) are.levels.arena;
+  ordered = are.levels.ordered;
+  named = are.named;
+  search = subst (λ j. Searched j (all ladders) (rung_number ladders rung)) k_is search;
+  holds_is = ap (holds (all ladders) (rung_number ladders rung)) (sym k_is) ∙ sym holds_is;
   total = total;
   later = later;
 }
 
-module _ {nodes : List Node} {free : List ℕ} {levels : List Level} {place at : ℕ} {o : Order} {there : Bool}
-    (it : Comes nodes free levels place at o there) where
+module _ {nodes : List Node} {free : List ℕ} {ladders : Laddered} {place : ℕ} {rung : Rung} {o : Order} {there : Bool}
+    (it : Comes nodes free ladders place rung o there) where
+  abbrev levels : List Level
+  levels = all ladders
+
+  abbrev at : ℕ
+  at = rung_number ladders rung
+
   pub vacant-there : (place < length nodes) × (order_at nodes place ≡ None)
   vacant-there = taken-vacant nodes free place it.arena
 
+  -- it stands there, in its ladder
+  pub record IsIn (nodes' : List Node) (ladders' : Laddered) : Type 0 where
+    pub stands : StandInLadders nodes' free ladders'
+    pub places : places_of nodes' ≡ slice_set (places_of nodes) place (Some o)
+
+  is-in : (i : ℕ) (last : Option ℕ) (nodes' : List Node) (ladders' : Laddered) (levels' : List Level)
+      → Seen nodes (nodes_with nodes last place o i) place (Some o) → nodes' ≡ nodes_with nodes last place o i
+      → BelongsToHome ladders.fences i o.symbol o.side → ladders'.fences ≡ ladders.fences → all ladders' ≡ levels'
+      → AreLevels (nodes_with nodes last place o i) levels' → IsIn nodes' ladders'
+  is-in i last nodes' ladders' levels' seen nodes_are belongs fences_are levels_are come = record {
+    stands = record {
+      levels = whole nodes' (nodes_with nodes last place o i) free free (all ladders') levels' nodes_are refl levels_are
+          (taken nodes free place it.arena (nodes_with nodes last place o i) o seen) come;
+      named = subst (λ fences. NameLadders fences nodes') (sym fences_are)
+          (subst (NameLadders ladders.fences) (sym nodes_are)
+          (with-named ladders.fences nodes last place o i it.named belongs));
+    };
+    places = ap places_of nodes_are ∙ seen.places;
+  }
+
   -- its level is there: it is behind the last one now
-  module _ (i : ℕ) (yes : there ≡ true) (l : Level) (l_is : l ≡ get_or levels at l) where
+  module _ (yes : there ≡ true) {l : Level} (l_is : l ≡ get_or levels at l) where
     level-at : IsLevelAt levels at (key_of o) l
     level-at = found-holds levels at (key_of o) it.ordered.in_order it.search.before it.search.behind l
         (it.holds_is ∙ yes) l_is
@@ -70,8 +103,8 @@ module _ {nodes : List Node} {free : List ℕ} {levels : List Level} {place at :
     longer-changes : Changes levels (levels_with levels at (longer ∷ [])) (key_of o) (Some longer)
     longer-changes = replaced levels at (key_of o) l it.ordered.in_order level-at longer refl
 
-    longer-come : AreLevels (nodes_with nodes (Some l.last) place o i) (levels_with levels at (longer ∷ []))
-    longer-come = come nodes levels (levels_with levels at (longer ∷ [])) it.ordered place o i (Some l.last) longer
+    longer-come : (i : ℕ) → AreLevels (nodes_with nodes (Some l.last) place o i) (levels_with levels at (longer ∷ []))
+    longer-come i = come nodes levels (levels_with levels at (longer ∷ [])) it.ordered place o i (Some l.last) longer
         vacant-there.0 vacant-there.1 it.total it.later
         (sym (ap (option_map (λ (m : Level). m.last)) level-found)) longer-changes refl
         (sym (ap (option_map (λ (m : Level). m.first)) level-found))
@@ -80,8 +113,9 @@ module _ {nodes : List Node} {free : List ℕ} {levels : List Level} {place at :
 
     pub join-fits : l.left + leaves o < 2 ^ 64
     join-fits =
-        let fits = total-fits (nodes_with nodes (Some l.last) place o i) longer-come.bounds (key_of o) in
-        let left = longer-come.left (key_of o) in
+        let come = longer-come 0 in
+        let fits = total-fits (nodes_with nodes (Some l.last) place o 0) come.bounds (key_of o) in
+        let left = come.left (key_of o) in
         let is = said-is what-is-left (levels_with levels at (longer ∷ [])) (key_of o) longer longer-changes.here in
         omega (arith, fits, left, is)
 
@@ -93,27 +127,20 @@ module _ {nodes : List Node} {free : List ℕ} {levels : List Level} {place at :
         let is = said-is how-many levels (key_of o) l level-found in
         omega (arith, few, fits, orders, is)
 
-    join-seen : Seen nodes (nodes_with nodes (Some l.last) place o i) place (Some o)
-    join-seen = with-seen nodes (Some l.last) place o i join-last vacant-there.0
-
-    pub join-places : (nodes' : List Node) → nodes' ≡ nodes_with nodes (Some l.last) place o i
-        → places_of nodes' ≡ slice_set (places_of nodes) place (Some o)
-    join-places nodes' nodes_are = ap places_of nodes_are ∙ join-seen.places
-
-    pub join-levels : (nodes' : List Node) (levels' : List Level) (left : ℕ)
-        → nodes' ≡ nodes_with nodes (Some l.last) place o i → left ≡ leaves o
-        → levels' ≡ slice_set levels at (record l { last = place; left = l.left + left; orders = l.orders + 1 })
-        → IsLevels nodes' free levels'
-    join-levels nodes' levels' left nodes_are left_is levels_are =
-        whole nodes' (nodes_with nodes (Some l.last) place o i) free free levels' (levels_with levels at (longer ∷ []))
-        nodes_are refl
+    pub joins : (i : ℕ) {nodes' : List Node} {ladders' : Laddered} {left : ℕ}
+        → nodes' ≡ nodes_with nodes (Some l.last) place o i → BelongsToHome ladders.fences i o.symbol o.side
+        → left ≡ leaves o
+        → all ladders' ≡ slice_set levels at (record l { last = place; left = l.left + left; orders = l.orders + 1 })
+        → ladders'.fences ≡ ladders.fences → IsIn nodes' ladders'
+    joins i {nodes'} {ladders'} nodes_are belongs left_is levels_are fences_are =
+        is-in i (Some l.last) nodes' ladders' (levels_with levels at (longer ∷ []))
+        (with-seen nodes (Some l.last) place o i join-last vacant-there.0) nodes_are belongs fences_are
         (levels_are
         ∙ ap (λ x. slice_set levels at (record l { last = place; left = l.left + x; orders = l.orders + 1 })) left_is
-        ∙ set-with levels at longer level-at.within)
-        (taken nodes free place it.arena (nodes_with nodes (Some l.last) place o i) o join-seen) longer-come
+        ∙ set-with levels at longer level-at.within) (longer-come i)
 
   -- it isn't: the order opens one
-  module _ (i : ℕ) (no : there ≡ false) where
+  module _ (no : there ≡ false) where
     abbrev is_none : holds levels at (key_of o) ≡ false
     is_none = it.holds_is ∙ no
 
@@ -123,25 +150,19 @@ module _ {nodes : List Node} {free : List ℕ} {levels : List Level} {place at :
     no-level : level_of (key_of o) levels ≡ None
     no-level = none-there levels at (key_of o) it.ordered.in_order it.search.before it.search.behind is_none
 
-    open-seen : Seen nodes (nodes_with nodes None place o i) place (Some o)
-    open-seen = with-seen nodes None place o i tt vacant-there.0
-
-    pub open-places : (nodes' : List Node) → nodes' ≡ nodes_with nodes None place o i
-        → places_of nodes' ≡ slice_set (places_of nodes) place (Some o)
-    open-places nodes' nodes_are = ap places_of nodes_are ∙ open-seen.places
-
-    pub open-levels : (nodes' : List Node) (levels' : List Level) (k : Key) (left : ℕ)
-        → nodes' ≡ nodes_with nodes None place o i → k ≡ key_of o → left ≡ leaves o
-        → levels' ≡ insert levels at (record { key = k; first = place; last = place; left = left; orders = 1 })
-        → IsLevels nodes' free levels'
-    open-levels nodes' levels' k left nodes_are k_is left_is levels_are =
-        whole nodes' (nodes_with nodes None place o i) free free levels' (insert levels at alone) nodes_are refl
+    pub opens : (i : ℕ) {nodes' : List Node} {ladders' : Laddered} {k : Key} {left : ℕ}
+        → nodes' ≡ nodes_with nodes None place o i → BelongsToHome ladders.fences i o.symbol o.side → left ≡ leaves o
+        → k ≡ key_of o
+        → all ladders' ≡ insert levels at (record { key = k; first = place; last = place; left = left; orders = 1 })
+        → ladders'.fences ≡ ladders.fences → IsIn nodes' ladders'
+    opens i {nodes'} {ladders'} {left = left} nodes_are belongs left_is k_is levels_are fences_are =
+        is-in i None nodes' ladders' (insert levels at alone) (with-seen nodes None place o i tt vacant-there.0)
+        nodes_are belongs fences_are
         (levels_are
         ∙ ap (λ (j : Key). insert levels at
         (record { key = j; first = place; last = place; left = left; orders = 1 })) k_is
         ∙ ap (λ x. insert levels at
         (record { key = key_of o; first = place; last = place; left = x; orders = 1 })) left_is)
-        (taken nodes free place it.arena (nodes_with nodes None place o i) o open-seen)
         (come nodes levels (insert levels at alone) it.ordered place o i None alone vacant-there.0 vacant-there.1
         it.total
         it.later (sym (ap (option_map (λ (m : Level). m.last)) no-level))
@@ -151,5 +172,6 @@ module _ {nodes : List Node} {free : List ℕ} {levels : List Level} {place at :
         (ap (λ x. unwrap_or (option_map (λ (m : Level). m.orders) x) 0 + 1) (sym no-level)))
 
     -- there is room for one more level where there is for one more order
-    pub open-room : length (standing (places_of nodes)) < length nodes → length levels < length nodes
-    open-room space = let no_more = few nodes levels it.ordered in omega (arith, no_more, space)
+    pub open-room : {room : ℕ} → (length (standing (places_of nodes)) < length nodes) × (length nodes ≤ room)
+        → length levels < room
+    open-room space = let no_more = few nodes levels it.ordered in omega (arith, no_more, space.0, space.1)

@@ -11,7 +11,7 @@ use Rattle.price_levels.specs.declared.ladders.Fence.{Fence}
 use Rattle.price_levels.specs.declared.ladders.Home.{Home}
 use Rattle.price_levels.specs.declared.ladders.Rung.{Rung}
 use Rattle.price_levels.specs.Keys.{symbol_before, side_before}
-use Rattle.price_levels.specs.Arena.{of_side}
+use Rattle.price_levels.specs.Arena.{of_side, IsLevels}
 
 -- what contracts see of one ladder: its levels, and how many it has room for
 pub record Levelled : Type 0 where
@@ -77,6 +77,11 @@ NamesLadder fences n = MatchOption n.order ⊤ (λ o. BelongsToHome fences n.lad
 
 abbrev pub NameLadders : List Fence → List Node → Type 0
 NameLadders fences nodes = AllByRecursion (NamesLadder fences) nodes
+
+-- the levels in ladders are those of the orders that stand at these nodes, whose other places are free
+pub record StandInLadders (nodes : List Node) (free : List ℕ) (l : Laddered) : Type 0 where
+  pub levels : IsLevels nodes free (all l)
+  pub named : NameLadders l.fences nodes
 
 -- the rung's ladder is theirs, and none of their levels stands farther on
 pub record IsHome (l : Laddered) (r : Rung) (symbol : List ℕ) (side : Side) : Type 0 where

@@ -3,8 +3,8 @@ ghost use Rattle.std.specs.Prelude.{◌≡◌, ◌≢◌, ◌<◌, ◌≤◌, �
 ghost use Rattle.std.specs.Vec.{vec_len, vec_capacity};
 ghost use Rattle.price_levels.specs.Keys.{key_of};
 ghost use Rattle.price_levels.specs.Places.{standing, ComesLater};
-ghost use Rattle.price_levels.specs.Arena.{IsWithinNodes, IsArena, AreLevels, IsLevels, IsChange, places_of, order_at, nodes_with, nodes_without, level_without, levels_with};
-ghost use Rattle.price_levels.specs.Ladders.{NameLadders, IsOn, all, rung_number};
+ghost use Rattle.price_levels.specs.Arena.{IsWithinNodes, IsArena, AreLevels, IsChange, places_of, order_at, nodes_with, nodes_without, level_without, levels_with};
+ghost use Rattle.price_levels.specs.Ladders.{NameLadders, StandInLadders, IsOn, all, rung_number};
 
 use crate::keys::{Level, key_of};
 use crate::ladders::{Ladders, Rung};
@@ -34,14 +34,12 @@ pub(crate) fn push(
     ladders: &mut Ladders,
     order: &Order,
 ) -> usize
-    requires levels { IsLevels nodes.old.items free.old.items (all ladders.old) }
-    requires named { NameLadders ladders.old.fences nodes.old.items }
+    requires ladders { StandInLadders nodes.old.items free.old.items ladders.old }
     requires room { (length (standing (places_of nodes.old.items)) < length nodes.old.items)
         × (length nodes.old.items ≤ ladders.old.room) }
     requires later { ComesLater (places_of nodes.old.items) order.now }
     requires quantity { order.now.total ≤ 1000000 }
-    ensures levels { IsLevels nodes.new.items free.new.items (all ladders.new) }
-    ensures named { NameLadders ladders.new.fences nodes.new.items }
+    ensures ladders { StandInLadders nodes.new.items free.new.items ladders.new }
     ensures free { (result < length nodes.old.items) × (order_at nodes.old.items result ≡ None) }
     ensures places { places_of nodes.new.items ≡ slice_set (places_of nodes.old.items) result (Some order.now) }
     ensures capacity { (vec_capacity free.new ≡ vec_capacity free.old) × (ladders.new.room ≡ ladders.old.room) }
@@ -121,12 +119,10 @@ pub(crate) fn take_out(
     ladders: &mut Ladders,
     place: usize,
 )
-    requires levels { IsLevels nodes.old.items free.old.items (all ladders.old) }
-    requires named { NameLadders ladders.old.fences nodes.old.items }
+    requires ladders { StandInLadders nodes.old.items free.old.items ladders.old }
     requires stands { order_at nodes.old.items place ≢ None }
     requires capacity { length nodes.old.items ≤ vec_capacity free.old }
-    ensures levels { IsLevels nodes.new.items free.new.items (all ladders.new) }
-    ensures named { NameLadders ladders.new.fences nodes.new.items }
+    ensures ladders { StandInLadders nodes.new.items free.new.items ladders.new }
     ensures places { places_of nodes.new.items ≡ slice_set (places_of nodes.old.items) place None }
     ensures capacity { (vec_capacity free.new ≡ vec_capacity free.old) × (ladders.new.room ≡ ladders.old.room) }
 {

@@ -20,7 +20,7 @@ pub enum Answer {
 
 /// Prints an answer to `out`, and gives the program's status: 0 once the line is printed and flushed, 1 where that
 /// fails, without a line. A fault's line goes to `err`, with the status 1; where it can't be printed it is let go.
-pub fn tell<O: Write, E: Write>(answer: Result<Answer, ReplayFault>, out: &mut O, err: &mut E) -> u8
+pub fn tell<O: Write, E: Write>(answer: Result<Answer, ReplayFault>, out: &mut O, err: &mut E) -> u8 // promise 13
     ensures status { (result ≡ 0) ⊎ (result ≡ 1) }
     ensures printed { result ≡ 0 → IfOk answer (λ a. Appends (O.contents out.old) (O.contents out.new) (answer_line a)) }
     ensures refused { IsErr answer → (result ≡ 1) × (out.new ≡ out.old) }

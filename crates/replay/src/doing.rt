@@ -23,7 +23,7 @@ pub fn report<D: JournalDisk, O: Write, E: Write>(
     disk: D,
     out: &mut O,
     err: &mut E,
-) -> (u8, D)
+) -> (u8, D) // promise 13
     requires one_disk { IsOfOneDisk job.now.task }
     ensures status { (result.0 ≡ 0) ⊎ (result.0 ≡ 1) }
     ensures done { result.0 ≡ 0 → DoesTask (D.honest disk) job.now.task (D.tells disk) (D.tells result.1)

@@ -41,7 +41,7 @@ pub struct Job {
 
 impl Job {
     /// Reads the words behind the program's name.
-    pub fn read(alloc: Global, words: &[String]) -> Result<Job, ReplayFault>
+    pub fn read(alloc: Global, words: &[String]) -> Result<Job, ReplayFault> // promise 13
         ensures said { IfOk result (λ job. AreWords (map string_bytes words.now) (string_bytes job.journal) job.task) }
         ensures wrong { IsErrOf result ReplayFault.Usage → (journal : List ℕ) (task : Task)
             → AreWords (map string_bytes words.now) journal task → ⊥ }

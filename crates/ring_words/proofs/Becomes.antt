@@ -1,15 +1,15 @@
 -- A seat whose one person changed is in use as before.
-use Rattle.std.proofs.Common.{◌≡◌, ◌≢◌, ℕ, List, [], ◌∷◌, Option, None, refl, ap, sym, subst, ◌∙◌}
+use Rattle.std.proofs.Common.{◌≡◌, ◌≢◌, ℕ, suc, ◌<◌, ◌++◌, List, [], ◌∷◌, Option, None, refl, ap, sym, subst, ◌∙◌}
 use Rattle.ring_words.specs.declared.view.Role.{Role}
 use Rattle.ring_words.specs.declared.view.Role.TheVariants.{Gateway, Process}
 use Rattle.ring_words.specs.declared.view.Person.{Person}
 use Rattle.atomic_table.specs.Seated.{TableId}
 use Rattle.ring_words.specs.declared.view.View.{View}
-use Rattle.ring_words.specs.Places.{processed, unmarshalled}
-use Rattle.ring_words.specs.Seats.{person, IsAlone, together, looked, last_load, last_from, AreTaken}
+use Rattle.ring_words.specs.Places.{processed, unmarshalled, taken}
+use Rattle.ring_words.specs.declared.view.Load.{Load}
+use Rattle.ring_words.specs.Seats.{person, IsAlone, load_of, looked, last_load, last_from, AreTaken}
 use Rattle.ring_words.specs.At.{Opened, At, IsAt, Steps, seat_of}
-use Rattle.ring_words.specs.SeatLaws.{last_stays}
-use Rattle.ring_words.specs.Meeting.{first_alone, second_alone}
+use Rattle.ring_words.specs.SeatLaws.{last_stays, last_kept, kept_else}
 use Rattle.ring_words.specs.Steps.{Seated, Became}
 
 module _ {S L : Type 0} (me me' : Seated S L) (q : Person) where
@@ -77,29 +77,23 @@ process_sits {S} {L} me me' q is bare role counts loaded' loaded published put v
       ),
     )
 
+-- what a processor's seat keeps of the words that it loaded stays where one is loaded that is neither unmarshalled nor
+-- a taken one
+pub words_stay : (k x : ℕ) (ls : List Load) (loaded : ℕ) (values : List (Option ℕ)) → k ≢ unmarshalled
+    → ((j : ℕ) → j < 8 → k ≢ taken (suc j)) → loaded ≡ last_from unmarshalled 0 ls → AreTaken values ls
+    → (loaded ≡ last_from unmarshalled 0 (ls ++ load_of k x ∷ [])) × AreTaken values (ls ++ load_of k x ∷ [])
+words_stay k x ls loaded values ne other last kept =
+    (last ∙ sym (last_kept unmarshalled k 0 x ls ne), kept_else values ls k x other kept)
+
 -- the processed value that a gateway's seat keeps stays where another word is loaded
 pub kept_behind : (p : Person) (j x : ℕ) (kept : Option ℕ) → j ≢ processed → kept ≡ last_load processed None p.loads
     → kept ≡ last_load processed None (looked p j x).loads
 kept_behind p j x kept ne last = last ∙ sym (last_stays processed j None x p.loads ne)
 
--- Two seats came together, their persons became p and q, and the seat was split again: the first has p, the second q,
--- each beside what the first had.
-module _ {S L : Type 0} (v w : View L) (came both cut : Seated S L) (p q : Person) (a : came ≡ (together v w, []))
-    (b : both ≡ (record came.0 { people = p ∷ q ∷ [] }, came.1)) where
-  pub parted_first : cut ≡ (first_alone both.0, both.1) → Became (v, []) p cut
-  parted_first c = c ∙ ap (λ (z : Seated S L). (first_alone z.0, z.1))
-      (b ∙ ap (λ (z : Seated S L). (record z.0 { people = p ∷ q ∷ [] }, z.1)) a)
-
-  pub parted_second : cut ≡ (second_alone both.0, []) → Became (v, []) q cut
-  parted_second c = c ∙ ap (λ (z : Seated S L). (second_alone z.0, []))
-      (b ∙ ap (λ (z : Seated S L). (record z.0 { people = p ∷ q ∷ [] }, z.1)) a)
-
-module _ {S L : Type 0} where
-  -- what contracts see of a seat whose one person changed
-  pub steps : (t t' : TableId) (v : View L) (carried : List (ℕ × S)) (cut : Seated S L) (q : Person) (s : At L)
-      → seat_of t v ≡ s → t' ≡ t → Became (v, carried) q cut → Steps s q (seat_of t' cut.0)
-  steps t t' v carried cut q s seat_is table is = ap (λ (x : TableId). seat_of x cut.0) table
-      ∙ ap (λ (z : Seated S L). seat_of t z.0) is ∙ ap (λ (b : At L). record b { who = q }) seat_is
+-- what contracts see of a seat whose one person changed
+pub steps : {S L : Type 0} (t t' : TableId) (v : View L) (carried : List (ℕ × S)) (cut : Seated S L) (q : Person)
+    (s : At L) → seat_of t v ≡ s → t' ≡ t → Became (v, carried) q cut → Steps s q (seat_of t' cut.0)
+steps t t' v carried cut q s seat_is table is = rw (table, is) (ap (λ (b : At _). record b { who = q }) seat_is)
 
 -- two seats of the same rings become the same by the same person
 pub steps_either : {L : Type 0} (rings : Opened L) (a b new : At L) (q : Person) → IsAt rings a → IsAt rings b

@@ -24,7 +24,8 @@ use Rattle.command_words.specs.Packing.{command_words, IsPackable}
 use Rattle.ring_words.specs.Terms.{Terms, commands_of}
 use Rattle.ring_words.specs.Rule.{Depth, Knows, words_of, Lawful}
 use Rattle.ring_words.specs.Seats.{person, IsAlone, IsReader, alone, looked, saw, knowing, last_from}
-use Rattle.ring_words.specs.Steps.{Seated, lesser_of, sees_claim, sees_processed, sees_mark, sees_raw}
+use Rattle.ring_words.specs.SeatLaws.{not_reached}
+use Rattle.ring_words.specs.Steps.{Seated, Reaches, lesser_of, sees_claim, sees_processed, sees_mark, sees_raw}
 use Rattle.ring_words.specs.Steps.{sees_unmarshalled, sees_journalled, sees_command}
 use Rattle.ring_words.proofs.Logs.{reaches, knows_looked, knows_saw, knows_knowing, published_late}
 use Rattle.ring_words.proofs.Keeps.{mine, after}
@@ -67,6 +68,15 @@ lesser_low a b = by_order (dec_le a b) where
       (omega arith, omega arith)
   by_order (no gt) = let is : cond (leb a b) a b ≡ b = cond-false (leb a b) a b (not_le (leb a b) gt refl) in
       (omega arith, omega arith)
+
+-- so many entries are known behind a load of journalled as the lesser word says, or as before where that says less
+pub known_behind : (x known : ℕ) (seen rest : List Message) → Reaches x seen rest → known ≡ length seen
+    → (known < x → x ≡ length (seen ++ rest)) × (x ≤ known → known ≡ length (seen ++ rest))
+known_behind x known seen rest reaches is = (
+  λ far. ⊎_elim (λ none_more. let near = none_more.0 in absurd (omega (arith, near, far, is)))
+      (λ more. sym more.1) reaches,
+  λ near. is ∙ sym (not_reached x seen rest reaches (omega arith)),
+)
 
 -- a beginning of the log goes on as far as there are entries
 goes_on : (status : ℕ → Status) (k : ℕ) (h : List Message) → IsFront status h

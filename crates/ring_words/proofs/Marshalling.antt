@@ -41,6 +41,61 @@ use Rattle.ring_words.proofs.Putting.{another_row}
 use Rattle.ring_words.proofs.Loads.{Goes, looks}
 use Rattle.ring_words.proofs.Stores.{own_output_now}
 
+-- The word at k was loaded as x, by which a box was taken out of the slot of the row of q. It was lent, as this one,
+-- and put back. So the seat has it out; and where an output stands at q, it is what the box has, and x is its address.
+pub record Copying {L : Type 0} (m q k x : ℕ) (outputs : L → List Message → List Output) (me me' : Seated Boxed L)
+    (lent : Boxed) : Type 0 where
+  pub box : Boxed
+  pub place : box.value.place ≡ q
+  pub out : me' ≡ (alone me.0 (with_out (looked (person me.0) k x) (Some box.value)), (q % m, box) ∷ [])
+  pub says : (logic : L) (o : Output) → me.0.logic ≡ Some logic
+      → get_elem? (outputs logic (person me.0).seen) q ≡ some o → (x ≡ o.to) × (lent.value.output ≡ o)
+
+-- the box of a slot; d where there is none
+abbrev box_of : Boxed → List (ℕ × Boxed) → Boxed
+box_of d [] = d
+box_of d (x ∷ xs) = x.1
+
+-- so it is behind a load that took it out, where what lay there was exchanged for a spare one and back
+pub copying : {L : Type 0} {m q k x row : ℕ} {outputs : L → List Message → List Output}
+    {me one two three : Seated Boxed L} {lent spare : Boxed} → ((b : Boxed) × (b.value.place ≡ q)
+    × (one ≡ (alone me.0 (with_out (looked (person me.0) k x) (Some b.value)), (q % m, b) ∷ me.1))
+    × ((logic : L) (o : Output) → me.0.logic ≡ Some logic → get_elem? (outputs logic (person me.0).seen) q ≡ some o
+    → (x ≡ o.to) × (b.value ≡ report_of o q)))
+    → me.1 ≡ [] → one.1 ≡ (row, lent) ∷ [] → two ≡ (one.0, (row, spare) ∷ []) → three ≡ (two.0, (row, lent) ∷ [])
+    → Copying m q k x outputs me three lent
+copying {lent = lent} (b, place, took, says) bare found left back =
+    let slot = sym (ap (λ (z : Seated Boxed _). z.1) took) ∙ found in
+    let same : b ≡ lent = ap (box_of lent) slot in record {
+      box = b;
+      place = place;
+      out = rw (back, left, ← found, took, bare) refl;
+      says = λ logic o view there. let is = says logic o view there in
+          (is.0, ap (λ (d : Boxed). d.value.output) (sym same) ∙ ap (λ (f : PlacedOutput). f.output) is.1);
+    }
+
+-- and behind the load of that address again the output is copied
+pub copied : {L : Type 0} {m q k x y : ℕ} (n : ℕ) {outputs : L → List Message → List Output}
+    {me me' me'' : Seated Boxed L} {lent : Boxed} → Copying m q k x outputs me me' lent
+    → gives_report (readable n m published) outputs (step 0 k 0 0 none) me' y me'' → (person me.0).out ≡ None
+    → (logic : L) (o : Output) → me.0.logic ≡ Some logic → get_elem? (outputs logic (person me.0).seen) q ≡ some o
+    → (person me.0).sequence ≤ q → Shows published (person me.0) q → k ≡ out_row n m q 0
+    → (lent.value.output ≡ o) × (me'' ≡ (alone me.0 (looked_twice (person me.0) k o.to), []))
+copied {L} {m} {q} {k} {x} {y} n {outputs} {me} so given home logic o view there from to k_is =
+    let p = person me.0 in let said = so.says logic o view there in
+    let gave = rw so.out at given in
+    let y_is : y ≡ o.to = gave.1 logic q o view there from
+    (to.0, (to.1.0, at_longer p.loads (load_of k x ∷ []) to.0 to.1.0 to.1.1, to.1.2, to.1.3)) k_is in (
+      said.1,
+      gave.0 ∙ (λ i. (
+        alone me.0 (record p {
+          loads = (p.loads ++ load_of k (said.0 i) ∷ []) ++ load_of k (y_is i) ∷ [];
+          out = sym home i;
+        }),
+        [],
+      )),
+    )
+
 module _ {L : Type 0} (terms : Terms L) where
   -- a load of the word at k, after which this holds
   abbrev Loads : ℕ → ℕ → Seated Boxed L → ℕ → (ℕ → Seated Boxed L → Type 0) → Type 0
@@ -240,18 +295,17 @@ module _ {L : Type 0} (terms : Terms L) where
       (carried ∙ ap (λ (j : ℕ). (q % j, b) ∷ []) (sym output_rows)) k))
 
   -- behind the load that took the slot out, and two exchanges
-  pub loads_giving_back : (n m : ℕ) → terms.rows ≡ n → terms.output_rows ≡ m
-      → (slots id q : ℕ) (me me' : Seated Boxed L) (b : Boxed) (k x : ℕ) → (person me.0).role ≡ Marshal
-      → b.value.place ≡ q
-      → me' ≡ (alone me.0 (with_out (looked (person me.0) k x) (Some b.value)), (q % m, b) ∷ [])
+  pub loads_giving_back : (n m : ℕ) → terms.rows ≡ n → terms.output_rows ≡ m → (slots id : ℕ) {q k x : ℕ}
+      {outputs : L → List Message → List Output} {me me' : Seated Boxed L} {lent : Boxed}
+      → Copying m q k x outputs me me' lent → (person me.0).role ≡ Marshal
       → Loads slots id me' k (gives_report (readable n m published) terms.outputs (step slots k 0 0 none) me')
-  loads_giving_back n m rows output_rows slots id q me me' b k x role place_is me_is =
+  loads_giving_back n m rows output_rows slots id {q} {k} {x} {me = me} so role =
       subst (λ (z : Seated Boxed L). Loads slots id z k
-      (gives_report (readable n m published) terms.outputs (step slots k 0 0 none) z)) (sym me_is)
+      (gives_report (readable n m published) terms.outputs (step slots k 0 0 none) z)) (sym so.out)
       (loads_giving_in n m rows output_rows slots id q (
-        alone me.0 (with_out (looked (person me.0) k x) (Some b.value)),
-        (q % m, b) ∷ [],
-      ) b refl role refl place_is refl k)
+        alone me.0 (with_out (looked (person me.0) k x) (Some so.box.value)),
+        (q % m, so.box) ∷ [],
+      ) so.box refl role refl so.place refl k)
 
   -- the marshaller moves its word behind the row under way, whose text it wrote whole
   pub stores_marshalled : (slots id : ℕ) (me : Seated Boxed L) (x : ℕ) (o : Output) → IsAlone me.0
@@ -332,47 +386,3 @@ module _ {L : Type 0} (terms : Terms L) where
             },
         refl,
       )
-
--- behind two exchanges a seat has out what it had
-pub exchanged_twice : {L : Type 0} (row j : ℕ) (v : View L) (b d spare : Boxed) (one two three : Seated Boxed L)
-    → one ≡ (v, (j, b) ∷ []) → one.1 ≡ (row, d) ∷ []
-    → two ≡ (one.0, (row, spare) ∷ []) → three ≡ (two.0, (row, d) ∷ []) → three ≡ (v, (j, b) ∷ [])
-exchanged_twice row j v b d spare one two three one_is found two_is three_is =
-    three_is ∙ (λ i. ((two_is i).0, (row, d) ∷ [])) ∙ (λ i. ((one_is i).0, (row, d) ∷ []))
-    ∙ ap (λ (l : List (ℕ × Boxed)). (v, l)) (sym found ∙ ap (λ (z : Seated Boxed _). z.1) one_is)
-
--- the box of a slot; d where there is none
-abbrev box_of : Boxed → List (ℕ × Boxed) → Boxed
-box_of d [] = d
-box_of d (x ∷ xs) = x.1
-
--- what the box that came out of the slot holds is the output
-pub copied_output : (row j : ℕ) (b d : Boxed) (o : Output) (q : ℕ) (out : List (ℕ × Boxed)) → out ≡ (j, b) ∷ []
-    → out ≡ (row, d) ∷ []
-    → b.value ≡ report_of o q → d.value.output ≡ o
-copied_output row j b d o q out took found is = let same = sym took ∙ found in
-    ap (λ (z : Boxed). z.value.output) (sym (ap (box_of d) same)) ∙ ap (λ (f : PlacedOutput). f.output) is
-
--- the seat behind both loads of an address, by which an output was copied
-pub copied : {L : Type 0} (n m q slots : ℕ) (outputs : L → List Message → List Output) (me me' me'' : Seated Boxed L)
-    (k x y : ℕ) (b : Boxed) (logic : L) (o : Output)
-    → me' ≡ (alone me.0 (with_out (looked (person me.0) k x) (Some b.value)), (q % m, b) ∷ [])
-    → gives_report (readable n m published) outputs (step slots k 0 0 none) me' y me''
-    → (person me.0).out ≡ None → me.0.logic ≡ Some logic → get_elem? (outputs logic (person me.0).seen) q ≡ some o
-    → (person me.0).sequence ≤ q → Shows published (person me.0) q → k ≡ out_row n m q 0 → x ≡ o.to
-    → me'' ≡ (alone me.0 (looked_twice (person me.0) (out_row n m q 0) o.to), [])
-copied {L} n m q slots outputs me me' me'' k x y b logic o me_is given home view_is there from to k_is x_is =
-    let p = person me.0 in let first : Person = with_out (looked p k x) (Some b.value) in
-    let gave : gives_report (readable n m published) outputs (step slots k 0 0 none) (alone me.0 first, (q % m, b) ∷ [])
-    y me'' = subst (λ (z : Seated Boxed L). gives_report (readable n m published) outputs (step slots k 0 0 none) z
-    y me'') me_is given in
-    let shown : Shows published first q =
-    (to.0, (to.1.0, at_longer p.loads (load_of k x ∷ []) to.0 to.1.0 to.1.1, to.1.2, to.1.3)) in
-    let y_is : y ≡ o.to = gave.1 logic q o view_is there from shown k_is in
-    gave.0 ∙ (λ i. (
-      alone me.0 (record p {
-        loads = (p.loads ++ load_of (k_is i) (x_is i) ∷ []) ++ load_of (k_is i) (y_is i) ∷ [];
-        out = sym home i;
-      }),
-      [],
-    ))

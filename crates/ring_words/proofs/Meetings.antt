@@ -2,6 +2,7 @@
 use Rattle.std.proofs.Common.{◌≡◌, ◌≢◌, ℕ, zero, suc, ◌+◌, ◌≤◌, Bool, true, false, List, [], ◌∷◌, ◌++◌, ◌⊎◌, inl, inr}
 use Rattle.std.proofs.Common.{⊎_elim, cond, eqb, leb, length, get_or, set, take, refl, ap, sym, subst, ◌∙◌, arith}
 use Rattle.std.proofs.Common.{le_refl}
+use Rattle.std.specs.Prelude.{None, Some}
 use Rattle.std.proofs.lemmas.Bool.{cond-true, cond-false, eq-eqb, ne_eqb, le-leb, leb-true}
 use mathlib.Core.Option.{none, some, some-injective, some-ne-none}
 use lib.ListN.{get_elem?}
@@ -21,9 +22,13 @@ use Rattle.ring_words.specs.Places.{processed, journalled, taken, word_of_role, 
 use Rattle.ring_words.specs.Log.{Log, Status, unclaimed, old, claimed, sent, sends_of, sent_at, IsFront}
 use Rattle.ring_words.specs.Terms.{Terms}
 use Rattle.ring_words.specs.Rule.{Depth, Knows, owners, words_of, Lawful}
-use Rattle.ring_words.specs.Seats.{person, together}
-use Rattle.ring_words.specs.Steps.{Seated}
-use Rattle.ring_words.specs.Meeting.{longer, met, AreMet, MeetsJournal, IsPresent, sees_meeting, sees_journal}
+use Rattle.atomic_table.specs.Seated.{TableId}
+use Rattle.ring_words.specs.Seats.{person, IsAlone, together, last_load}
+use Rattle.ring_words.specs.SeatLaws.{last_now}
+use Rattle.ring_words.specs.At.{Opened, At, IsAt, Steps, seat_of}
+use Rattle.ring_words.specs.Steps.{Seated, Became}
+use Rattle.ring_words.specs.Meeting.{first_alone, second_alone, longer, met, AreMet, MeetsJournal, IsPresent}
+use Rattle.ring_words.specs.Meeting.{sees_meeting, sees_journal}
 use Rattle.ring_words.proofs.Written.{writes_rows}
 use Rattle.ring_words.proofs.Owners.{one_of, owners_both, same_owners}
 use Rattle.ring_words.proofs.Logs.{knows_looked}
@@ -32,6 +37,7 @@ use Rattle.ring_words.proofs.Keeps.{one_owner_each}
 use Rattle.ring_words.proofs.Taking.{legal_front}
 use Rattle.ring_words.proofs.Seatings.{reseated}
 use Rattle.ring_words.proofs.Loads.{Goes}
+use Rattle.ring_words.proofs.Becomes.{steps_either, gateway_sits}
 
 -- the first two of a list of two
 in_two : (p q o : Person) (ps : List Person) (j : ℕ) → ps ≡ p ∷ q ∷ [] → get_elem? ps j ≡ some o → (p ≡ o) ⊎ (q ≡ o)
@@ -246,7 +252,83 @@ module _ {L : Type 0} (terms : Terms L) where
       (refl, subst (λ (l : List Message). MeetsJournal (length l) p q) (sym own_p.1) learned)))
 
 -- the seat that took in another has both persons
-pub both_people : {L : Type 0} (v w : View L) (both : Seated Boxed L) → v.people ≡ person v ∷ []
-    → w.people ≡ person w ∷ [] → both ≡ (together v w, []) → both.0.people ≡ person v ∷ person w ∷ []
-both_people v w both one other is = ap (λ (z : Seated Boxed _). z.0.people) is
+pub both_people : {L : Type 0} (v w : View L) {both : Seated Boxed L} → both ≡ (together v w, []) → IsAlone v
+    → IsAlone w → both.0.people ≡ person v ∷ person w ∷ []
+both_people v w is one other = ap (λ (z : Seated Boxed _). z.0.people) is
     ∙ ap (λ (ps : List Person). ps ++ w.people) one ∙ ap (λ (ps : List Person). person v ∷ ps) other
+
+-- Two seats met, by a load of processed as r: the person of the first knows h now, that of the second k, as the seats
+-- at these tables have them and as contracts see it. And this was learned.
+pub record Met {L : Type 0} (one other : At L) (v w : View L) (r : ℕ) (h k : List Message) (t₁ t₂ : TableId)
+    (first second : Seated Boxed L) (Learned : Type 0) : Type 0 where
+  pub first_has : Became (v, []) (met (person v) r h) first
+  pub second_has : Became (v, []) (met (person w) r k) second
+  pub one_steps : Steps one (met one.who r h) (seat_of t₁ first.0)
+  pub other_steps : Steps other (met other.who r k) (seat_of t₂ second.0)
+  pub learned : Learned
+
+-- two gateways' seats, and a gateway's and the journaller's
+abbrev pub GatewaysMet : {L : Type 0} → Opened L → At L → At L → View L → View L → ℕ → TableId → TableId
+    → Seated Boxed L → Seated Boxed L → Type 0
+GatewaysMet rings one other v w r t₁ t₂ first second = let h = longer one.who.seen other.who.seen in
+    Met one other v w r h h t₁ t₂ first second (AreMet (length rings.base) one.who other.who)
+
+abbrev pub JournalMet : {L : Type 0} → Opened L → At L → At L → View L → View L → ℕ → TableId → TableId
+    → Seated Boxed L → Seated Boxed L → Type 0
+JournalMet rings one other v w r t₁ t₂ first second =
+    Met one other v w r (take other.who.sequence other.who.seen) other.who.seen t₁ t₂ first second
+    (MeetsJournal (length rings.base) one.who other.who)
+
+-- both came together, both persons learned it, and the seat was split again: each has its person beside what the first
+-- had
+module _ {L : Type 0} (rings : Opened L) (v w : View L) {t t' t₁ t₂ : TableId} {r : ℕ}
+    {came both first second : Seated Boxed L} (a : came ≡ (together v w, [])) (b : first ≡ (first_alone both.0, both.1))
+    (c : second ≡ (second_alone both.0, [])) (table : t₁ ≡ t) (table' : t₂ ≡ t) (one_alone : IsAlone v)
+    (other_alone : IsAlone w) where
+  meets : {h k : List Message} (Learned : List Message → Type 0) → IsAt rings (seat_of t v)
+      → IsAt rings (seat_of t' w)
+      → (both ≡ (record came.0 { people = met (person v) r h ∷ met (person w) r k ∷ [] }, came.1)) × Learned came.0.base
+      → Met (seat_of t v) (seat_of t' w) v w r h k t₁ t₂ first second (Learned rings.base)
+  meets {h} {k} Learned one other told =
+      let first_is = rw (told.0, a) at b in let second_is = rw (told.0, a) at c in record {
+        first_has = first_is;
+        second_has = second_is;
+        one_steps = rw (table, first_is) refl;
+        other_steps = steps_either rings (seat_of t v) (seat_of t' w) _ (met (person w) r k) one other
+            (rw (table', second_is) refl);
+        learned = subst Learned (ap (λ (z : Seated Boxed L). z.0.base) a ∙ ap (λ (s : At L). s.base) one) told.1;
+      }
+
+  pub gateways_met : {one other : At L} {i j : ℕ} → seat_of t v ≡ one → seat_of t' w ≡ other → IsAt rings one
+      → IsAt rings other → (person v).role ≡ Gateway i → (person w).role ≡ Gateway j
+      → sees_meeting (step 0 processed 0 0 none) came r both → GatewaysMet rings one other v w r t₁ t₂ first second
+  gateways_met {i = i} {j} one_is other_is = rw (← one_is, ← other_is) (λ at at' role role' sees.
+      meets (λ h. AreMet (length h) (person v) (person w)) at at'
+      (sees (person v) (person w) i j (both_people v w a one_alone other_alone) role role'))
+
+  pub journal_met : {one other : At L} {i : ℕ} → seat_of t v ≡ one → seat_of t' w ≡ other → IsAt rings one
+      → IsAt rings other → (person v).role ≡ Gateway i → (person w).role ≡ Journal
+      → (person w).sequence ≤ length (person w).seen → sees_journal (step 0 processed 0 0 none) came r both
+      → JournalMet rings one other v w r t₁ t₂ first second
+  journal_met {i = i} one_is other_is = rw (← one_is, ← other_is) (λ at at' role role' within sees.
+      meets (λ h. MeetsJournal (length h) (person v) (person w)) at at'
+      (sees (person v) (person w) i (both_people v w a one_alone other_alone) role role' within))
+
+-- a gateway's seat that met another keeps what it keeps, and has r of processed
+module _ {L Numbered Learned : Type 0} {one other : At L} {v w : View L} {r : ℕ} {h k : List Message} {t₁ t₂ : TableId}
+    {first second : Seated Boxed L} (met : Met one other v w r h k t₁ t₂ first second Learned) where
+  pub first_sits : {number count : ℕ} → (person v).role ≡ Gateway number → Numbered → count ≡ (person v).sequence
+      → IsAlone first.0 × ((first.1 ≡ [])
+      × (((person first.0).role ≡ Gateway number)
+      × (Numbered × ((count ≡ (person first.0).sequence)
+      × ((Some r ≡ last_load processed None (person first.0).loads) × Unit {0})))))
+  first_sits role numbered own = gateway_sits (v, []) _ _ met.first_has refl _ role numbered _ own _
+      (sym (last_now processed None r (person v).loads))
+
+  pub second_sits : {number count : ℕ} → (person w).role ≡ Gateway number → Numbered → count ≡ (person w).sequence
+      → IsAlone second.0 × ((second.1 ≡ [])
+      × (((person second.0).role ≡ Gateway number)
+      × (Numbered × ((count ≡ (person second.0).sequence)
+      × ((Some r ≡ last_load processed None (person second.0).loads) × Unit {0})))))
+  second_sits role numbered own = gateway_sits (v, []) _ _ met.second_has refl _ role numbered _ own _
+      (sym (last_now processed None r (person w).loads))

@@ -12,6 +12,7 @@ use Rattle.ring_words.specs.declared.view.View.{View}
 use Rattle.ring_words.specs.Terms.{Terms}
 use Rattle.ring_words.specs.Rule.{Knows, owners, all_owners, words_of, Lawful}
 use Rattle.ring_words.specs.Seats.{first_person, person, others_stay, apart, together, nobody}
+use Rattle.ring_words.specs.Steps.{Seated}
 use Rattle.ring_words.specs.Meeting.{nobody_else, first_alone, second_alone}
 use Rattle.ring_words.proofs.Logs.{in_take}
 use Rattle.ring_words.proofs.Owners.{owners_both, owners_snoc, changed_owners}
@@ -133,3 +134,8 @@ module _ {L : Type 0} (terms : Terms L) where
       (λ k. (let a = changed_owners k s.views id v both at in let b = changed_owners k vs other w nobody at' in
       let c = owners_both k v.people w.people in
       let x : ℕ = all_owners k s.views in omega arith))
+
+-- who was the first person is it where others came in
+pub first_stays : {S L : Type 0} {v : View L} (w : View L) {z : Seated S L} {carried : List (ℕ × S)} {p : Person}
+    {ps : List Person} → z ≡ (together v w, carried) → v.people ≡ p ∷ ps → z.0.people ≡ p ∷ (ps ++ w.people)
+first_stays w is one = rw is (rw one refl)

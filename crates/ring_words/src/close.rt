@@ -91,7 +91,7 @@ impl<L: Logic + Drop, const N: usize, const M: usize, const G: usize> Rings<L, N
 
     /// Ends the rings, when all seats have come back and each claim is published. It loads the processed word once with
     /// each seat but the processor's.
-    pub fn close(self, seats: Seats<L>) -> Summary
+    pub fn close(self, seats: Seats<L>) -> Summary // promise 9
         requires seats { AreSeatsOf G self seats }
         requires spent { AreSpent seats.gateways.items }
         ensures commands { result.commands ≡ seats.process.who.sequence }

@@ -31,7 +31,7 @@ impl<L: Logic, const N: usize, const M: usize, const G: usize> Rings<L, N, M, G>
     /// Two gateways meet: of what they had seen one history begins the other, and afterwards both have seen the longer,
     /// which is legal for both. The processed word is loaded by both at once; the table's own moves, which join the two
     /// seats and split them again, load it too.
-    pub fn meet(&self, one: &mut GatewaySeat<L>, other: &mut GatewaySeat<L>)
+    pub fn meet(&self, one: &mut GatewaySeat<L>, other: &mut GatewaySeat<L>) // promise 9
         requires one { IsAt self.now one.old }
         requires other { IsAt self.now other.old }
         ensures met { AreMet (length self.now.base) one.old.who other.old.who }
@@ -47,7 +47,7 @@ impl<L: Logic, const N: usize, const M: usize, const G: usize> Rings<L, N, M, G>
 
     /// A gateway meets the journaller: what it had seen begins what the journaller has released, and afterwards it has
     /// seen all of that, which is legal for it.
-    pub fn meet_journal(&self, gateway: &mut GatewaySeat<L>, journal: &mut JournalSeat<L>)
+    pub fn meet_journal(&self, gateway: &mut GatewaySeat<L>, journal: &mut JournalSeat<L>) // promise 9
         requires gateway { IsAt self.now gateway.old }
         requires journal { IsAt self.now journal.old }
         ensures met { MeetsJournal (length self.now.base) gateway.old.who journal.old.who }

@@ -174,8 +174,7 @@ impl<L: Logic, const N: usize, const M: usize, const G: usize> Rings<L, N, M, G>
         left: u64,
         base_outputs: u64,
     ) -> GatewaySeat<L>
-        requires table { first.old.table_id ≡ self.now.table }
-        requires bare { first.old.me.1 ≡ [] }
+        requires first { (first.old.table_id ≡ self.now.table) × (first.old.me.1 ≡ []) }
         requires people { first.old.me.0 ≡ view_of self.now.logic self.now.base (gateways number left self.now.base self.now.base_outputs) }
         requires some { 0 < left }
         requires given { base_outputs ≡ self.now.base_outputs }
@@ -249,7 +248,7 @@ impl<L: Logic + Drop, const N: usize, const M: usize, const G: usize> Rings<L, N
         past: Past,
         count: u64,
         given: u64,
-    ) -> Result<(Rings<L, N, M, G>, Seats<L>), OpenError>
+    ) -> Result<(Rings<L, N, M, G>, Seats<L>), OpenError> // promise 5
         requires gateways { (1 ≤ G) × (G ≤ 8) }
         requires long { (count ≡ length past.entries) × (count ≤ 2 ^ 48) }
         requires given { given ≡ length (L.outputs logic past.entries) }

@@ -40,7 +40,7 @@ pub fn run_listening<
     sign: &mut S,
     out: &mut O,
     err: &mut E,
-) -> (u8, Option<FileDisk<F>>, Vec<Box<X>>)
+) -> (u8, Option<FileDisk<F>>, Vec<Box<X>>) // promise 12
     requires gateways { (1 ≤ G) × (G ≤ 8) }
     requires ports { (vec_len ports ≡ G) × AreFree (in_box X.tells) ports.items }
     ensures unopened { IfNone result.1 ((result.0 ≡ 1) × (result.2 ≡ ports)) }
@@ -84,7 +84,7 @@ pub fn run_for<
     sign: &mut S,
     out: &mut O,
     err: &mut E,
-) -> (u8, Option<FileDisk<F>>, Vec<Box<X>>)
+) -> (u8, Option<FileDisk<F>>, Vec<Box<X>>) // promise 12
     requires count { (1 ≤ vec_len ports) × (vec_len ports ≤ 8) }
     requires free { AreFree (in_box X.tells) ports.items }
     ensures unopened { IfNone result.1 ((result.0 ≡ 1) × (result.2 ≡ ports)) }

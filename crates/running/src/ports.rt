@@ -12,7 +12,7 @@ pub fn local_ports<'a, R: Net<Listener = TcpListener, Stream = TcpStream>>(
     alloc: Global,
     first: u16,
     count: u8,
-) -> Result<Vec<Box<TcpPort<'a, R>>>, AllocError>
+) -> Result<Vec<Box<TcpPort<'a, R>>>, AllocError> // promise 12
     requires { first + count ≤ 65536 }
     ensures ports { IfOk result (λ ports. ArePorts ⟦<TcpPort<'a, R> as Port>⟧.tells first ports.items) }
     ensures count { IfOk result (λ ports. vec_len ports ≡ count) }

@@ -29,7 +29,7 @@ pub fn serve<D: JournalDisk, W: Wire, E: Write>(
     disk: D,
     wire: &mut W,
     err: &mut E,
-) -> (u8, D)
+) -> (u8, D) // promise 11
     ensures status { IsStatus (W.tells wire.old) (W.tells wire.new) (D.failed disk) (D.failed result.1) result.0 }
     ensures untouched { result.0 ≡ 1 → wire.new ≡ wire.old }
     ensures served { EndsWith (trading words.now.symbols) (device D.honest D.tells D.failed)
@@ -53,7 +53,7 @@ pub fn run<F: RawFile, P: Folder<File = F>, W: Wire, E: Write>(
     folder: &mut P,
     wire: &mut W,
     err: &mut E,
-) -> (u8, Option<FileDisk<F>>)
+) -> (u8, Option<FileDisk<F>>) // promise 11
     ensures unopened { IfNone result.1 (result.0 ≡ 1) }
     ensures cause { P.honest folder.old → (P.tells folder.old).there ≡ true →
         IfNone result.1 (Rose (P.failures folder.old).all (P.failures folder.new).all) }

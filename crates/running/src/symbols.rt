@@ -27,7 +27,7 @@ impl Model for Symbols {
 
 impl Symbols {
     /// The symbols that these words are. `Memory` says nothing of the words.
-    pub fn read(alloc: Global, words: &[String]) -> Result<Symbols, WordsFault>
+    pub fn read(alloc: Global, words: &[String]) -> Result<Symbols, WordsFault> // promise 11
         ensures same { IfOk result (λ symbols. symbols ≡ map string_bytes words.now) }
         ensures good { IfOk result (λ _. AreSymbols (map string_bytes words.now)) }
         ensures wrong { IsErrOf result WordsFault.Usage → AreSymbols (map string_bytes words.now) → ⊥ }
@@ -38,7 +38,7 @@ impl Symbols {
     }
 
     /// The table of these symbols, for a venue.
-    pub fn limits(&self, alloc: Global) -> Result<Limits, AllocError>
+    pub fn limits(&self, alloc: Global) -> Result<Limits, AllocError> // promise 11
         ensures { IfOk result (λ limits. limits ≡ trading self.now) }
     {
         match Limits::new(alloc, &self.names) {

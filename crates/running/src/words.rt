@@ -30,7 +30,7 @@ impl WordsFault {
     ghost use Rattle.running.specs.Faults.{words_number};
 
     /// Its number, 11 or 12.
-    pub fn number(self) -> u8
+    pub fn number(self) -> u8 // promise 11
         ensures { result ≡ words_number self }
     {
         self as u8
@@ -87,7 +87,7 @@ pub struct Words {
 
 impl Words {
     /// Reads the words behind the program's name.
-    pub fn read(alloc: Global, words: &[String]) -> Result<Words, WordsFault>
+    pub fn read(alloc: Global, words: &[String]) -> Result<Words, WordsFault> // promise 11
         ensures said { IfOk result (λ w.
             AreWords (map string_bytes words.now) w.mode (string_bytes w.journal) w.symbols) }
         ensures range { IfOk result (λ w. IsInRange w.mode) }
@@ -141,7 +141,7 @@ fn number_to(most: u16, word: &str) -> Option<u16>
 }
 
 /// Prints the line for wrong words, and gives the status for it. A line that can't be printed is let go.
-pub fn refuse<E: Write>(fault: WordsFault, err: &mut E) -> u8
+pub fn refuse<E: Write>(fault: WordsFault, err: &mut E) -> u8 // promise 11
     ensures { result ≡ 1 }
 {
     let _ = writeln!(err, "{fault}");

@@ -1,6 +1,6 @@
 -- The words of a message, stored one after another.
 use Rattle.std.proofs.Common.{◌≡◌, ℕ, zero, suc, ◌+◌, ◌/◌, ◌%◌, ◌<◌, ◌≤◌, List, [], ◌∷◌, ◌++◌, length, get_or, take}
-use Rattle.std.proofs.Common.{min, refl, ap, sym, subst, inr, ◌∙◌, arith, length-append, add-one}
+use Rattle.std.proofs.Common.{refl, ap, sym, subst, inr, ◌∙◌, arith, length-append, add-one}
 use Rattle.std.proofs.Math.Seq.{take-length, get_or-append_seam}
 use Rattle.std.proofs.lemmas.List.{get_or_append_left}
 use Rattle.std.specs.Int.{from_be_bytes}
@@ -9,10 +9,10 @@ use mathlib.Core.Logic.{dite}
 use native.Mathlib.Decide.{ℕ_discrete}
 use Rattle.venue_model.specs.History.{Message}
 use Rattle.ring_words.specs.declared.view.Person.{Person}
-use Rattle.ring_words.specs.Log.{IsEntry}
+use Rattle.ring_words.specs.Log.{IsEntry, times_in}
 use Rattle.ring_words.specs.Raw.{eight, raw_word, raw_count, SpellsMessage}
 use Rattle.ring_words.specs.Seats.{stored, marked, wrote}
-use Rattle.ring_words.specs.At.{At, seated}
+use Rattle.ring_words.specs.At.{At, seated, number}
 use Rattle.ring_words.specs.Steps.{GoesOnRow}
 use Rattle.sequencer.specs.Words.{first_words, message_words}
 
@@ -41,7 +41,7 @@ is_entry k bs number long small =
     record { message = record { from = number.0; to = number.1; some = long.0; most = long.1 }; bytes = small }
 
 -- behind the first j words comes word j
-pub goes_on : (p : Person) (s : ℕ) (e : Message) (j : ℕ) → GoesOnRow (wrote p s (first_words e j)).row s j
+goes_on : (p : Person) (s : ℕ) (e : Message) (j : ℕ) → GoesOnRow (wrote p s (first_words e j)).row s j
 goes_on p s e j = let long = length-first_words e j in inr (refl, omega arith)
 
 -- a store of word j behind the first j words
@@ -52,26 +52,43 @@ store_after p s e j x is =
     let kept : take j ws ≡ ws = subst (λ (n : ℕ). take n ws ≡ ws) (length-first_words e j) (take-length ws) in
     ap (wrote p s) (ap (λ (v : List ℕ). v ++ x ∷ []) kept ∙ ap (λ (y : ℕ). ws ++ y ∷ []) is)
 
-module _ {L : Type 0} (v u w : At L) (s : ℕ) (e : Message) where
-  -- one store more: word i of the bytes is word i + 1 of the message
-  pub store_next : (i x : ℕ) → u ≡ seated v (wrote v.who s (first_words e (i + 1)))
-      → x ≡ from_be_bytes w64 (eight e.bytes i)
-      → w ≡ seated u (stored u.who s (i + 1) x) → w ≡ seated v (wrote v.who s (first_words e (i + 1 + 1)))
-  store_next i x so_far word step =
-      let p = v.who in
+-- A gateway stores the words of its message, which has these bytes: words up to i of the bytes are those up to i + 1 of
+-- the message.
+module _ {L : Type 0} (v u : At L) (s : ℕ) (bs : List ℕ) where
+  abbrev e : Message
+  e = record { gateway = number v; bytes = bs }
+
+  -- the row is under way, so the next one may be stored
+  pub may_store : (i : ℕ) → u ≡ seated v (wrote v.who s (first_words e (i + 1))) → 0 < times_in s v.who.claims
+      → (0 < times_in s u.who.claims) × GoesOnRow u.who.row s (i + 1)
+  may_store i so_far claimed = rw so_far (claimed, goes_on v.who s e (i + 1))
+
+  -- and then it is
+  pub store_next : (w : At L) (i x : ℕ) → u ≡ seated v (wrote v.who s (first_words e (i + 1)))
+      → x ≡ from_be_bytes w64 (eight bs i) → w ≡ seated u (stored u.who s (i + 1) x)
+      → w ≡ seated v (wrote v.who s (first_words e (i + 1 + 1)))
+  store_next w i x so_far word step =
       let next : x ≡ raw_word e (i + 1) = word ∙ ap (raw_word e) (sym (add-one i)) in
-      let more : wrote p s (first_words e (suc (i + 1))) ≡ wrote p s (first_words e (i + 1 + 1)) =
-      ap (λ (n : ℕ). wrote p s (first_words e n)) (sym (add-one (i + 1))) in
-      rw so_far at step ∙ ap (seated v) (store_after p s e (i + 1) x next ∙ more)
+      rw so_far at step ∙ ap (seated v) (store_after v.who s e (i + 1) x next
+      ∙ ap (λ (n : ℕ). wrote v.who s (first_words e n)) (sym (add-one (i + 1))))
 
-  -- after the last one all words are stored
-  pub store_last : (n : ℕ) → u ≡ seated v (wrote v.who s (first_words e (n + 1)))
-      → n ≡ length e.bytes / 8 + min 1 (length e.bytes % 8)
-      → u ≡ seated v (wrote v.who s (message_words e))
-  store_last n so_far is =
-      let long : ℕ = length e.bytes in let count : n + 1 ≡ suc ((long + 7) / 8) = omega arith in
-      so_far ∙ ap (λ (k : ℕ). seated v (wrote v.who s (first_words e k))) count
+  -- where the bytes are whole words all are stored
+  pub store_whole : (i : ℕ) → u ≡ seated v (wrote v.who s (first_words e (i + 1))) → i ≡ length bs / 8
+      → length bs % 8 ≡ 0 → u ≡ seated v (wrote v.who s (message_words e))
+  store_whole i so_far whole none =
+      let long : ℕ = length bs in let all : i + 1 ≡ suc ((long + 7) / 8) = omega arith in
+      so_far ∙ ap (λ (k : ℕ). seated v (wrote v.who s (first_words e k))) all
 
+  -- else behind one more, of the bytes that are left
+  pub store_rest : (w : At L) (i x : ℕ) → u ≡ seated v (wrote v.who s (first_words e (i + 1))) → i ≡ length bs / 8
+      → 0 < length bs % 8 → x ≡ from_be_bytes w64 (eight bs (length bs / 8))
+      → w ≡ seated u (stored u.who s (length bs / 8 + 1) x) → w ≡ seated v (wrote v.who s (message_words e))
+  store_rest w i x so_far whole some word step =
+      let long : ℕ = length bs in let all : i + 1 + 1 ≡ suc ((long + 7) / 8) = omega arith in
+      store_next w i x so_far (rw whole word) (rw whole step)
+      ∙ ap (λ (k : ℕ). seated v (wrote v.who s (first_words e k))) all
+
+module _ {L : Type 0} (v u w : At L) (s : ℕ) (e : Message) where
   -- then the row spells the message
   pub row_spells : u ≡ seated v (wrote v.who s (message_words e)) → SpellsMessage u.who.row.words e
   row_spells written = rw written (spelled e)

@@ -100,7 +100,7 @@ fn sees_room<L: Logic, const N: usize, const M: usize, const G: usize>(
 pub fn try_claim<L: Logic, const N: usize, const M: usize, const G: usize>(
     rings: &Rings<L, N, M, G>,
     seat: &mut GatewaySeat<L>,
-) -> Result<Claim, ClaimRefusal>
+) -> Result<Claim, ClaimRefusal> // promise 4
     requires at { IsAt rings.now seat.old }
     ensures claimed { IfOk result (λ claim. Claimed N seat.old claim seat.new) }
     ensures held { IfOk result (λ claim. 0 < times_in claim seat.new.who.claims) }

@@ -44,7 +44,7 @@ impl Claim {
         rings: &Rings<L, N, M, G>,
         seat: &mut GatewaySeat<L>,
         bytes: &[u8],
-    ) -> u64
+    ) -> u64 // promise 4
         requires at { IsAt rings.now seat.old }
         requires claimed { 0 < times_in self seat.old.who.claims }
         requires bytes { (1 ≤ length bytes.now) × (length bytes.now ≤ 320) }

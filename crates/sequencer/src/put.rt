@@ -53,7 +53,7 @@ fn look_for_room<L: Logic, const N: usize, const M: usize, const G: usize>(
 pub fn room<L: Logic, const N: usize, const M: usize, const G: usize>(
     rings: &Rings<L, N, M, G>,
     seat: &mut ProcessSeat<L>,
-) -> u64
+) -> u64 // promise 6
     requires at { IsAt rings.now seat.old }
     ensures step { SamePlace seat.old seat.new }
     ensures looked { SaysRoom G M seat.old.who result seat.new.who }

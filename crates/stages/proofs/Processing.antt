@@ -1,7 +1,7 @@
 -- One command through the processor: it is read at the own word and done in the book, and its outputs are put behind
 -- those before.
-use Rattle.std.proofs.Common.{◌≡◌, ℕ, zero, suc, ◌+◌, ◌<◌, ◌≤◌, nat_le, List, [], ◌∷◌, ◌++◌, length, take, drop, ap, refl, sym}
-use Rattle.std.proofs.Common.{subst, ◌∙◌, length-append, arith, Some}
+use Rattle.std.proofs.Common.{◌≡◌, ℕ, zero, suc, ◌+◌, ◌<◌, ◌≤◌, nat_le, List, [], ◌∷◌, ◌++◌, length, take, drop, ap}
+use Rattle.std.proofs.Common.{refl, sym, subst, ◌∙◌, length-append, arith, Some}
 use Rattle.std.proofs.lemmas.List.{length-take-le}
 use mathlib.Core.Option.{some, some-injective, some-ne-none}
 use lib.ListN.{get_elem?}
@@ -14,8 +14,6 @@ use Rattle.venue_model.specs.HistoryLaws.{requests_from-more, state-more, output
 use Rattle.fix_orders.specs.RangeLaws.{reads_within}
 use Rattle.ring_words.specs.declared.view.Person.{Person}
 use Rattle.ring_words.specs.Log.{IsEntry}
-use Rattle.ring_words.specs.Places.{journalled}
-use Rattle.ring_words.specs.Seats.{last_from}
 use Rattle.ring_words.specs.At.{At, seated}
 use Rattle.command_words.specs.Packing.{command_words}
 use Rattle.venue_model.specs.ListLaws.{stands}
@@ -27,7 +25,6 @@ use Rattle.stages.specs.Turns.{after_reading}
 use Rattle.book.specs.Histories.{reads_at, request_at, requests_of, state_of, outputs_of}
 use Rattle.stages.specs.Processed.{entries_done}
 use Rattle.stages.specs.Processes.{to_put}
-use Rattle.stages.specs.Stations.{AtBook}
 use Rattle.stages.specs.Insides.{FollowsRings}
 
 -- HISTORIES
@@ -88,60 +85,38 @@ pub record Took (n : ℕ) (limits : Limits) (v r : At Limits) (s gateway : ℕ) 
   pub known : v.who.sequence < length v.who.seen
   pub entry : Message
   pub at : get_elem? v.who.seen v.who.sequence ≡ some entry
+  pub valid : IsEntry entry
   pub from : gateway ≡ entry.gateway
   pub command_is : command ≡ reads_at limits v.who.sequence entry
   pub view : r ≡ seated v (after_reading n limits v.who entry)
 
--- the entry at s is e, of which these are gateway and command
-abbrev Reads : Limits → At Limits → ℕ → ℕ → Command → Type 0
-Reads limits v s gateway command = (e : Message) → get_elem? v.who.seen s ≡ some e →
-    (gateway ≡ e.gateway) × (command ≡ reads_at limits s e) × IsEntry e
+pub took : {n : ℕ} {limits : Limits} {v r : At Limits} {s gateway : ℕ} {command : Command} → s < length v.who.seen
+    → s ≡ v.who.sequence → ((e : Message) → get_elem? v.who.seen s ≡ some e →
+    (gateway ≡ e.gateway) × (command ≡ reads_at limits s e) × IsEntry e)
+    → ((e : Message) → get_elem? v.who.seen s ≡ some e →
+    r ≡ seated v (after_command n v.who s (command_words e.gateway (reads_at limits s e))))
+    → Took n limits v r s gateway command
+took {n} {limits} {v} {s = s} known at is loads =
+    let stood = stands v.who.seen s known in let e = stood.0 in let read = is e stood.1 in record {
+      place = at;
+      known = rw (← at) known;
+      entry = e;
+      at = rw (← at) stood.1;
+      valid = read.2;
+      from = read.0;
+      command_is = rw (← at) read.1;
+      view = loads e stood.1
+          ∙ ap (λ (t : ℕ). seated v (after_command n v.who t (command_words e.gateway (reads_at limits t e)))) at;
+    }
 
--- reading it led to the view r
-abbrev Loads : ℕ → Limits → At Limits → At Limits → ℕ → Type 0
-Loads n limits v r s = (e : Message) → get_elem? v.who.seen s ≡ some e →
-    r ≡ seated v (after_command n v.who s (command_words e.gateway (reads_at limits s e)))
-
--- what was read by some limits was read by those that they are
-pub reads_so : (l m : Limits) (v : At Limits) (s gateway : ℕ) (command : Command) → m ≡ l → Reads l v s gateway command
-    → Reads m v s gateway command
-reads_so l m v s gateway command same is = subst (λ (x : Limits). Reads x v s gateway command) (sym same) is
-
-pub loads_so : (n : ℕ) (l m : Limits) (v r : At Limits) (s : ℕ) → m ≡ l → Loads n l v r s → Loads n m v r s
-loads_so n l m v r s same is = subst (λ (x : Limits). Loads n x v r s) (sym same) is
-
-module _ (limits : Limits) (v : At Limits) (s gateway : ℕ) (command : Command)
-    (known : s < length v.who.seen) (is : Reads limits v s gateway command) where
-  -- the book may be asked to do it
-  pub may_apply : (1 ≤ gateway) × (gateway ≤ 8) × IsCommand command
-  may_apply = let stood = stands v.who.seen s known in let read = is stood.0 stood.1 in
-      let from = read.0 in let entry = read.2.message in (
-        omega (arith, from, entry.from),
-        omega (arith, from, entry.to),
-        subst IsCommand (sym read.1) (reads_within (nat_le limits.cut s) stood.0.bytes),
-      )
-
-  pub took : (n : ℕ) (r : At Limits) → s ≡ v.who.sequence → Loads n limits v r s → Took n limits v r s gateway command
-  took n r place loads = let stood = stands v.who.seen s known in let e = stood.0 in let read = is e stood.1 in
-      record {
-        place = place;
-        known = subst (λ (t : ℕ). t < length v.who.seen) place known;
-        entry = e;
-        at = subst (λ (t : ℕ). get_elem? v.who.seen t ≡ some e) place stood.1;
-        from = read.0;
-        command_is = read.1 ∙ ap (λ (t : ℕ). reads_at limits t e) place;
-        view = loads e stood.1
-            ∙ ap (λ (t : ℕ). seated v (after_command n v.who t (command_words e.gateway (reads_at limits t e)))) place;
-      }
+-- the book may be asked to do it
+pub may_apply : {n : ℕ} {limits : Limits} {v r : At Limits} {s gateway : ℕ} {command : Command}
+    → Took n limits v r s gateway command → (1 ≤ gateway) × (gateway ≤ 8) × IsCommand command
+may_apply {limits = limits} {v = v} is =
+    let entry = is.valid.message in rw (is.from, is.command_is)
+    (entry.from, entry.to, reads_within (nat_le limits.cut v.who.sequence) is.entry.bytes)
 
 -- WHAT THE PROCESSOR KEEPS
-
--- the command of the sequence s may be taken up
-pub record MayTake (p : AtBook) (s : ℕ) : Type 0 where
-  pub next : s ≡ p.seat.who.sequence
-  pub all : p.applied ≡ s
-  pub known : s < length p.seat.who.seen
-  pub synced : s < last_from journalled 0 p.seat.who.loads
 
 -- while the command behind those done is under way, its outputs are to be put
 pub left_to_put : (v : At Limits) (book : Book) (applied : ℕ) (left : List Output) → FollowsRings v book applied left
@@ -149,13 +124,6 @@ pub left_to_put : (v : At Limits) (book : Book) (applied : ℕ) (left : List Out
     → to_put book.limits v.who ≡ left
 left_to_put v book applied left follows one =
     ap (λ (k : ℕ). drop v.who.row.sequence (outputs_of book.limits (take k v.who.seen))) (sym one) ∙ follows.rest
-
--- the message of the next sequence was read
-abbrev pub HasRead : ℕ → Limits → Person → Person → Type 0
-HasRead n limits v w = (e : Message) × (get_elem? v.seen v.sequence ≡ some e) × (w ≡ after_reading n limits v e)
-
-pub has_read_so : (n : ℕ) (l m : Limits) (v w : Person) → m ≡ l → HasRead n l v w → HasRead n m v w
-has_read_so n l m v w same is = subst (λ (x : Limits). HasRead n x v w) (sym same) is
 
 -- where no outputs are left of them
 pub at_rest : (v : At Limits) (book : Book) (applied s : ℕ) (left : List Output) → FollowsRings v book applied left

@@ -1,7 +1,7 @@
 -- The outputs of one command on their way into the output ring: what one look for room leaves, and what the put ones
 -- leave.
 use Rattle.std.proofs.Common.{◌≡◌, ◌⊎◌, inl, inr, ℕ, zero, suc, ◌+◌, ◌<◌, ◌≤◌, Bool, true, false, cond, List, [], ◌∷◌}
-use Rattle.std.proofs.Common.{◌++◌, length, get_or, take, drop, min, Some, ap, refl, sym, subst, ◌∙◌, append_assoc}
+use Rattle.std.proofs.Common.{◌^◌, ◌++◌, length, get_or, take, drop, min, Some, ap, refl, sym, subst, ◌∙◌, append_assoc}
 use Rattle.std.proofs.Common.{length-drop, arith, add-one, eqb}
 use Rattle.std.proofs.lemmas.List.{append-nil, drop-drop, length-take-le}
 use Rattle.std.specs.Prelude.{MatchBool, ◌-◌, if◌then◌else◌, nat_le, nat_lt}
@@ -18,7 +18,7 @@ use Rattle.ring_words.specs.declared.view.Person.{Person}
 use Rattle.command_words.specs.Packing.{command_words}
 use Rattle.ring_words.specs.Places.{unmarshalled, journalled, taken, in_row}
 use Rattle.ring_words.specs.Rule.{at_place}
-use Rattle.ring_words.specs.Seats.{load_of, looked, last_from}
+use Rattle.ring_words.specs.Seats.{load_of, looked, moved, last_from}
 use Rattle.ring_words.specs.At.{Opened, At, IsAt, seated}
 use Rattle.ring_words.specs.Steps.{HasOutputRoom, Shows, lesser_of}
 use Rattle.ring_words.specs.SeatLaws.{last_kept, last_loaded}
@@ -30,10 +30,10 @@ use Rattle.book.specs.Histories.{reads_at, state_of, outputs_of}
 use Rattle.stages.specs.Turns.{after_reading}
 use Rattle.stages.specs.Processes.{to_put, TakesUp, put_ahead, PutsRound, PutsRounds, PutsOutputs, PutsUntilFull}
 use Rattle.stages.specs.Processes.{Processes, sizes}
-use Rattle.stages.specs.declared.turn.Turn.TheVariants.{OutFull}
+use Rattle.stages.specs.declared.turn.Turn.TheVariants.{Did, OutFull}
 use Rattle.stages.specs.Stations.{AtBook}
-use Rattle.stages.specs.Insides.{FollowsRings, IsWorking, upto}
-use Rattle.stages.proofs.Processing.{MayTake, Took, at_rest, follows_on, left_to_put}
+use Rattle.stages.specs.Insides.{FollowsRings, IsWorking, MayTake, PutRound}
+use Rattle.stages.proofs.Processing.{Took, at_rest, follows_on, left_to_put}
 
 -- THE VALUE LOADED LAST
 
@@ -91,14 +91,22 @@ read_leaves n limits v r s gateway command took above =
     v.who.loads in
     omega (arith, above, place, own, last)
 
+-- the limits of the book are those of the rings
+pub limits_are : {p : AtBook} (rings : Opened Limits) → IsWorking p → IsAt rings p.seat → p.book.limits ≡ rings.logic
+limits_are rings works of_rings = let same : Some _ ≡ Some rings.logic =
+    sym works.follows.logic ∙ ap (λ (s : At Limits). s.logic) of_rings in
+    cc
+
 -- the processor with that command taken up, done in the book, and its outputs left
-pub works_on : (n : ℕ) (p : AtBook) (r : At Limits) (s gateway : ℕ) (command : Command) → IsWorking p → MayTake p s
-    → Took n p.book.limits p.seat r s gateway command → (book : Book) (left : List Output)
-    → book.limits ≡ p.book.limits → book.state
-    ≡ (step p.book.limits.symbols p.book.state s (record { gateway = gateway; command = command })).state
+pub works_on : {n : ℕ} {p : AtBook} {r : At Limits} {s gateway : ℕ} {command : Command} (rings : Opened Limits)
+    → IsWorking p → IsAt rings p.seat → MayTake p s → Took n rings.logic p.seat r s gateway command
+    → {book : Book} {left : List Output}
+    → book.limits ≡ p.book.limits
+    → book.state ≡ (step p.book.limits.symbols p.book.state s (record { gateway = gateway; command = command })).state
     → left ≡ (step p.book.limits.symbols p.book.state s (record { gateway = gateway; command = command })).outputs
     → IsWorking (record { seat = r; book = book; applied = s + 1; left = left })
-works_on n p r s gateway command working may took book left limits stepped told =
+works_on {n} {p} {r} {s} {gateway} {command} rings working of_rings may by_rings {book} {left} limits stepped told =
+    let took = rw (← (limits_are rings working of_rings)) at by_rings in
     let follows = at_rest p.seat p.book p.applied s p.left working.follows may.all
     (working.whole (may.all ∙ may.next)) in
     let place = took.place in let known = took.known in
@@ -160,13 +168,6 @@ module _ (v u : At Limits) (k : ℕ) (is : u ≡ seated v (put_ahead v.who k)) w
       (sym person_is)
       (subst (λ (s : ℕ). get_elem? (outputs_of limits (take (suc v.who.sequence) v.who.seen)) s ≡ some o) (sym place_is) at)
 
--- the logic of a seat's rings is the one that it is known to have
-pub same_logic : (rings : Opened Limits) (v : At Limits) (limits : Limits) → IsAt rings v → v.logic ≡ Some limits
-    → limits ≡ rings.logic
-same_logic rings v limits of_rings by = let same : Some limits
-    ≡ Some rings.logic = sym by ∙ ap (λ (s : At Limits). s.logic) of_rings in
-    cc
-
 -- ONE LOOK FOR ROOM
 
 pub at_drop : {A : Type 0} (n : ℕ) (l : List A) (i : ℕ) → get_elem? (drop n l) i ≡ get_elem? l (n + i)
@@ -217,7 +218,7 @@ were_put g m p left answer most q w says some_left is w_is =
     )
 
 -- so it is by what is answered
-pub put_or_full : (A B : Type 0) (most : ℕ) → (0 < most → A) × (most ≡ 0 → B) → MatchBool (nat_lt 0 most) A B
+put_or_full : (A B : Type 0) (most : ℕ) → (0 < most → A) × (most ≡ 0 → B) → MatchBool (nat_lt 0 most) A B
 put_or_full A B most were = by_answer (nat_lt 0 most) refl where
   by_answer : (b : Bool) → nat_lt 0 most ≡ b → MatchBool b A B
   by_answer true is = were.0 (leb-true 1 most is)
@@ -236,173 +237,130 @@ round_ahead m g upto v w puts =
     let some_room = puts.1.1.2 in
     omega (arith, place, ahead, some_room, below)
 
-module _ (g m : ℕ) (v u : At Limits) (room : ℕ) (looked : OnlyLooked v.who u.who) (u_is : u ≡ seated v u.who) where
-  looked_place : u.who.row.sequence ≡ v.who.row.sequence
-  looked_place = ap (λ (q : Person). q.row.sequence) looked.loads
+-- The ring was asked for room, for the outputs that are left of the command under way. These are outputs of a list from
+-- one place on.
+module _ {p : AtBook} {u : At Limits} (g m room : ℕ) (works : IsWorking p) (under_way : p.seat.who.sequence < p.applied)
+    (says : SaysRoom g m p.seat.who room u.who) (u_is : u ≡ seated p.seat u.who) (put most : ℕ)
+    (items now : List Output) (left_is : p.left ≡ drop put items) (is : now ≡ items) where
+  abbrev v : At Limits
+  v = p.seat
 
-  -- so many outputs have room
-  room_for_all : ((i : ℕ) → i < room → HasOutputRoom g m u.who (v.who.row.sequence + i)) → (k : ℕ) → k ≤ room
-      → (i : ℕ) → i < k → HasOutputRoom g m u.who (u.who.row.sequence + i)
-  room_for_all free k most i below = subst (λ (s : ℕ). HasOutputRoom g m u.who (s + i)) (sym looked_place)
-      (free i (omega (arith, below, most)))
+  only : OnlyLooked v.who u.who
+  only = only_looked g m v.who room u.who says
+
+  one : p.applied ≡ suc v.who.sequence
+  one = let counts = works.counts in omega (arith, counts, under_way)
+
+  looked_place : u.who.row.sequence ≡ v.who.row.sequence
+  looked_place = ap (λ (q : Person). q.row.sequence) only.loads
 
   -- the value of journalled that was loaded last is as before
   last_same : last_from journalled 0 u.who.loads ≡ last_from journalled 0 v.who.loads
-  last_same = ap (λ (q : Person). last_from journalled 0 q.loads) looked.loads
-      ∙ looks_leave 1 0 looked.values v.who.loads
+  last_same = ap (λ (q : Person). last_from journalled 0 q.loads) only.loads
+      ∙ looks_leave 1 0 only.values v.who.loads
 
-  own_same : u.who.sequence ≡ v.who.sequence
-  own_same = ap (λ (q : Person). q.sequence) looked.loads
+  still_synced : Shows journalled u.who u.who.sequence
+  still_synced = let last = last_same in let own = ap (λ (q : Person). q.sequence) only.loads in
+      let above = works.synced under_way in last_shows journalled u.who.sequence u.who (omega (arith, above, last, own))
 
-  still_synced : v.who.sequence < last_from journalled 0 v.who.loads → Shows journalled u.who u.who.sequence
-  still_synced above = let last = last_same in let own = own_same in
-      last_shows journalled u.who.sequence u.who (omega (arith, above, last, own))
+  -- as many of them as are to be put are lent
+  lent : take (put + most - put) (drop put now) ≡ take most p.left
+  lent = let g : put + most - put ≡ most = omega arith in rw (g, is, left_is) refl
 
-  module _ (book : Book) (applied : ℕ) (left : List Output) (follows : FollowsRings v book applied left)
-      (one : applied ≡ suc v.who.sequence) where
-    -- what is left are the next outputs
-    are_next : (most : ℕ) (i : ℕ) (o : Output) → get_elem? (take most left) i ≡ some o
-        → get_elem? (outputs_of book.limits (take (suc u.who.sequence) u.who.seen)) (u.who.row.sequence + i) ≡ some o
-    are_next most i o at =
-        subst (λ (q : Person). get_elem? (outputs_of book.limits (take (suc q.sequence) q.seen)) (q.row.sequence + i)
-        ≡ some o) (sym looked.loads)
-        (subst (λ (k : ℕ). get_elem? (outputs_of book.limits (take k v.who.seen)) (v.who.row.sequence + i) ≡ some o)
-        one
-        (sym (at_drop v.who.row.sequence (outputs_of book.limits (take applied v.who.seen)) i)
-        ∙ ap (λ (l : List Output). get_elem? l i) follows.rest ∙ at_front most left i o at))
+  -- what is left are the next outputs
+  are_next : (i : ℕ) (o : Output) → get_elem? (take most p.left) i ≡ some o
+      → get_elem? (outputs_of p.book.limits (take (suc u.who.sequence) u.who.seen)) (u.who.row.sequence + i) ≡ some o
+  are_next i o at =
+      subst (λ (q : Person). get_elem? (outputs_of p.book.limits (take (suc q.sequence) q.seen)) (q.row.sequence + i)
+      ≡ some o) (sym only.loads)
+      (subst (λ (k : ℕ). get_elem? (outputs_of p.book.limits (take k v.who.seen)) (v.who.row.sequence + i) ≡ some o) one
+      (sym (at_drop v.who.row.sequence (outputs_of p.book.limits (take p.applied v.who.seen)) i)
+      ∙ ap (λ (l : List Output). get_elem? l i) works.follows.rest ∙ at_front most p.left i o at))
 
-    -- so the first of them may be put, no more than there is room for
-    pub may_put : (logic : Limits) (most k : ℕ) (first : List Output) → book.limits ≡ logic → first ≡ take most left
-        → ((i : ℕ) → i < room → HasOutputRoom g m u.who (v.who.row.sequence + i)) → k ≤ room
-        → v.who.sequence < last_from journalled 0 v.who.loads
-        → ((i : ℕ) → i < k → HasOutputRoom g m u.who (u.who.row.sequence + i)) × (Shows journalled u.who u.who.sequence
-        × ((i : ℕ) (o : Output) → get_elem? first i ≡ some o
-        → get_elem? (outputs_of logic (take (suc u.who.sequence) u.who.seen)) (u.who.row.sequence + i) ≡ some o))
-    may_put logic most k first same are free few above = (
-      room_for_all free k few,
-      (
-        still_synced above,
-        λ i o at. subst (λ (l : Limits). get_elem? (outputs_of l (take (suc u.who.sequence) u.who.seen))
-            (u.who.row.sequence + i) ≡ some o) same
-            (are_next most i o (sym (ap (λ (l : List Output). get_elem? l i) are) ∙ at)),
-      ),
-    )
+  -- so the first of them may be put, no more than there is room for
+  pub may_put : (rings : Opened Limits) → IsAt rings p.seat → (k : ℕ) → k ≤ room
+      → ((i : ℕ) → i < room → HasOutputRoom g m u.who (v.who.row.sequence + i))
+      → ((i : ℕ) → i < k → HasOutputRoom g m u.who (u.who.row.sequence + i)) × (Shows journalled u.who u.who.sequence
+      × ((i : ℕ) (o : Output) → get_elem? (take (put + most - put) (drop put now)) i ≡ some o
+      → get_elem? (outputs_of rings.logic (take (suc u.who.sequence) u.who.seen)) (u.who.row.sequence + i) ≡ some o))
+  may_put rings of_rings k few free = (
+    λ i below. rw looked_place (free i (omega (arith, below, few))),
+    (
+      still_synced,
+      λ i o at. subst (λ (l : Limits). get_elem? (outputs_of l (take (suc u.who.sequence) u.who.seen))
+          (u.who.row.sequence + i) ≡ some o) (limits_are rings works of_rings)
+          (are_next i o (sym (ap (λ (l : List Output). get_elem? l i) lent) ∙ at)),
+    ),
+  )
 
-    pub has_logic : u.logic ≡ Some book.limits
-    has_logic = ap (λ (z : At Limits). z.logic) u_is ∙ follows.logic
+  -- as many as there is room for are put: that is a round
+  module _ (some_left : 0 < length p.left) (least : most ≡ min room (length items - put)) (w : At Limits)
+      (was_put : w ≡ seated u (put_ahead u.who (length (take (put + most - put) (drop put now))))) where
+    long : length p.left ≡ length items - put
+    long = ap length left_is ∙ length-drop put items
 
-    module _ (most : ℕ) (within : most ≤ length left) (w : At Limits) (w_is : w ≡ seated u (put_ahead u.who most)) where
-      put_is : w.who ≡ record v.who { loads = w.who.loads; row = w.who.row }
-      put_is = let is = ap (λ (s : At _). s.who) w_is ∙ (ahead_is u.who most).0 in
-          is ∙ ap (λ (q : Person). record q { row = (put_ahead u.who most).row }) looked.loads
-          ∙ (λ i. record v.who {
-            loads =
-                (sym (ap (λ (q : Person). q.loads)
-                (is ∙ ap (λ (q : Person). record q { row = (put_ahead u.who most).row }) looked.loads))) i;
-            row = (sym (ap (λ (q : Person). q.row) is)) i;
-          })
+    within : most ≤ length p.left
+    within = let l = long in omega (arith, least, l)
 
-      place_after : w.who.row.sequence ≡ v.who.row.sequence + most
-      place_after = ap (λ (z : At Limits). z.who.row.sequence) w_is ∙ ahead_place u.who most
-          ∙ ap (λ (s : ℕ). s + most) looked_place
+    w_is : w ≡ seated u (put_ahead u.who most)
+    w_is = was_put ∙ ap (λ (k : ℕ). seated u (put_ahead u.who k)) (ap length lent ∙ length-take-le most p.left within)
 
-      own_after : w.who.sequence ≡ v.who.sequence
-      own_after = ap (λ (q : Person). q.sequence) put_is
+    -- of the person the loads and the row are others
+    put_is : w.who ≡ record v.who { loads = w.who.loads; row = w.who.row }
+    put_is = let is = ap (λ (s : At _). s.who) w_is ∙ (ahead_is u.who most).0
+        ∙ ap (λ (q : Person). record q { row = (put_ahead u.who most).row }) only.loads in
+        let loads = sym (ap (λ (q : Person). q.loads) is) in let row = sym (ap (λ (q : Person). q.row) is) in
+        is ∙ (λ i. record v.who { loads = loads i; row = row i })
 
-      seen_after : w.who.seen ≡ v.who.seen
-      seen_after = ap (λ (q : Person). q.seen) put_is
+    place : w.who.row.sequence ≡ v.who.row.sequence + most
+    place = ap (λ (z : At Limits). z.who.row.sequence) w_is ∙ ahead_place u.who most
+        ∙ ap (λ (s : ℕ). s + most) looked_place
 
-      last_after : last_from journalled 0 w.who.loads ≡ last_from journalled 0 v.who.loads
-      last_after = ap (λ (z : At Limits). last_from journalled 0 z.who.loads) w_is
-          ∙ ap (last_from journalled 0) (ahead_loads u.who most) ∙ last_same
+    own : w.who.sequence ≡ v.who.sequence
+    own = ap (λ (q : Person). q.sequence) put_is
 
-      outs_after : outputs_of book.limits (take applied w.who.seen) ≡ outputs_of book.limits (take applied v.who.seen)
-      outs_after = ap (λ h. outputs_of book.limits (take applied h)) seen_after
+    seen : w.who.seen ≡ v.who.seen
+    seen = ap (λ (q : Person). q.seen) put_is
 
-      -- the book follows, and the others are left
-      pub follows_after : FollowsRings w book applied (drop most left)
-      follows_after = record {
-        logic = ap (λ (z : At Limits). z.logic) w_is ∙ has_logic;
-        state = follows.state ∙ ap (λ h. state_of book.limits (take applied h)) (sym seen_after);
-        rest = ap (λ (k : ℕ). drop k (outputs_of book.limits (take applied w.who.seen))) place_after
-            ∙ ap (drop (v.who.row.sequence + most)) outs_after
-            ∙ sym (drop-drop most v.who.row.sequence (outputs_of book.limits (take applied v.who.seen)))
-            ∙ ap (drop most) follows.rest;
-        published = let all = follows.published in
-            let long = length-drop most left in
-            let place = place_after in
-            let outs = ap length outs_after in
-            omega (arith, all, long, place, outs, within);
-      }
+    last : last_from journalled 0 w.who.loads ≡ last_from journalled 0 v.who.loads
+    last = ap (λ (z : At Limits). last_from journalled 0 z.who.loads) w_is
+        ∙ ap (last_from journalled 0) (ahead_loads u.who most) ∙ last_same
 
-      -- what the processor knows is as before
-      pub same_after : (w.who.sequence ≡ v.who.sequence) × (length w.who.seen ≡ length v.who.seen)
-          × (last_from journalled 0 w.who.loads ≡ last_from journalled 0 v.who.loads)
-      same_after = (own_after, ap length seen_after, last_after)
+    outs : outputs_of p.book.limits (take p.applied w.who.seen) ≡ outputs_of p.book.limits (take p.applied v.who.seen)
+    outs = ap (λ h. outputs_of p.book.limits (take p.applied h)) seen
 
--- the outputs that are lent to be put
-pub lent : (put most : ℕ) (items now : List Output) → now ≡ items
-    → take (put + most - put) (drop put now) ≡ take most (drop put items)
-lent put most items now is = let g : put + most - put ≡ most = omega arith in
-    ap (λ (k : ℕ). take k (drop put now)) g ∙ ap (λ (l : List Output). take most (drop put l)) is
+    left_now : drop (put + most) items ≡ drop most p.left
+    left_now = sym (ap (drop most) left_is ∙ drop-drop most put items)
 
-pub all_lent : (put most : ℕ) (items now : List Output) → now ≡ items → most ≤ length (drop put items)
-    → length (take (put + most - put) (drop put now)) ≡ most
-all_lent put most items now is within = ap length (lent put most items now is)
-    ∙ length-take-le most (drop put items) within
-
--- what the processor is when so many were put of those left
-pub record AreGone (m g : ℕ) (p : AtBook) (w : At Limits) (most : ℕ) : Type 0 where
-  pub follows : FollowsRings w p.book p.applied (drop most p.left)
-  pub sequence : w.who.sequence ≡ p.seat.who.sequence
-  pub seen : length w.who.seen ≡ length p.seat.who.seen
-  pub last : last_from journalled 0 w.who.loads ≡ last_from journalled 0 p.seat.who.loads
-  pub place : w.who.row.sequence ≡ p.seat.who.row.sequence + most
-  pub puts : (0 < most → PutsRound m g (upto p) p.seat.who w.who) × (most ≡ 0 → SaysRoom g m p.seat.who 0 w.who)
-
--- those left are the outputs from one place on, of which as many as there is room for are lent and put
-pub are_gone : (m g : ℕ) (p : AtBook) (u w : At Limits) (room most put : ℕ) (items now : List Output)
-    → IsWorking p → p.left ≡ drop put items
-    → p.seat.who.sequence < p.applied → SaysRoom g m p.seat.who room u.who
-    → u ≡ seated p.seat u.who → now ≡ items
-    → 0 < length p.left → most ≡ min room (length p.left)
-    → w ≡ seated u (put_ahead u.who (length (take (put + most - put) (drop put now)))) → AreGone m g p w most
-are_gone m g p u w room most put items now working left_is under_way says u_is is some_there least
-    was_put =
-    let v = p.seat in let looked = only_looked g m v.who room u.who says in let counts = working.counts in
-    let one : p.applied ≡ suc v.who.sequence = omega (arith, counts, under_way) in
-    let within : most ≤ length p.left = omega (arith, least) in
-    let long = ap length left_is in
-    let w_is : w ≡ seated u (put_ahead u.who most) =
-    was_put ∙ ap (λ (k : ℕ). seated u (put_ahead u.who k))
-    (all_lent put most items now is (omega (arith, within, long))) in
-    let kept = same_after g m v u room looked u_is p.book p.applied p.left working.follows one most within w w_is in
-    record {
-      follows = follows_after g m v u room looked u_is p.book p.applied p.left working.follows one most within w w_is;
-      sequence = kept.0;
-      seen = kept.1;
-      last = kept.2;
-      place = place_after g m v u room looked u_is p.book p.applied p.left working.follows one most within w w_is;
-      puts = were_put g m v.who p.left room most u.who w.who says some_there least (ap (λ (s : At _). s.who) w_is);
+    follows_after : FollowsRings w p.book p.applied (drop (put + most) items)
+    follows_after = record {
+      logic = ap (λ (z : At Limits). z.logic) w_is ∙ ap (λ (z : At Limits). z.logic) u_is ∙ works.follows.logic;
+      state = works.follows.state ∙ ap (λ h. state_of p.book.limits (take p.applied h)) (sym seen);
+      rest = ap (λ (k : ℕ). drop k (outputs_of p.book.limits (take p.applied w.who.seen))) place
+          ∙ ap (drop (v.who.row.sequence + most)) outs
+          ∙ sym (drop-drop most v.who.row.sequence (outputs_of p.book.limits (take p.applied v.who.seen)))
+          ∙ ap (drop most) works.follows.rest ∙ sym left_now;
+      published = let all = works.follows.published in let rest = ap length left_now ∙ length-drop most p.left in
+          let at = place in let out = ap length outs in let in_it = within in omega (arith, all, rest, at, out, in_it);
     }
 
--- the processor with the others left
-pub works_behind : (m g : ℕ) (p : AtBook) (w : At Limits) (most : ℕ) (rest : List Output) → IsWorking p
-    → p.seat.who.sequence < p.applied
-    → drop most p.left ≡ rest → AreGone m g p w most → IsWorking
-    (record { seat = w; book = p.book; applied = p.applied; left = rest })
-works_behind m g p w most rest working under_way is gone =
-    let counts = working.counts in
-    let above = working.synced under_way in
-    let own = gone.sequence in
-    let seen = gone.seen in
-    let last = gone.last in
-    record {
-      follows = subst (FollowsRings w p.book p.applied) is gone.follows;
-      counts = (omega (arith, counts, own), omega (arith, counts, own), omega (arith, counts, seen));
-      whole = λ all. absurd (omega (arith, all, under_way, own));
-      synced = λ _. omega (arith, above, last, own);
-    }
+    pub puts_round : PutRound m g (nat_lt 0 most) p
+        (record { seat = w; book = p.book; applied = p.applied; left = drop (put + most) items })
+    puts_round =
+        let counts = works.counts in let above = works.synced under_way in let same = own in
+        let know = ap length seen in let at = place in let synced = last in
+        let rest = ap length left_now ∙ length-drop most p.left in let in_it = within in let all = long in record {
+          own = own;
+          same_end = omega (arith, at, rest, in_it);
+          puts = put_or_full _ _ most (were_put g m v.who p.left room most u.who w.who says some_left
+              (rw all least) (ap (λ (s : At _). s.who) w_is));
+          working = record {
+            follows = follows_after;
+            counts = (omega (arith, counts, same), omega (arith, counts, same), omega (arith, counts, know));
+            whole = λ all. absurd (omega (arith, all, under_way, same));
+            synced = λ _. omega (arith, above, synced, same);
+          };
+        }
 
 -- a round more
 pub one_round_more : (m g upto : ℕ) (u v w : Person) → (k : ℕ) × PutsRounds m g upto k u v → PutsRound m g upto v w
@@ -428,76 +386,91 @@ behind_synced v u s behind known =
     let long = behind.2.2 in
     omega (arith, low, last, long, known)
 
+-- so the command of the next sequence may be taken up
+pub may_take : (v : Person) {u : At Limits} {book : Book} {applied next count : ℕ} {left : List Output}
+    → BehindBoth v u.who → next ≡ v.sequence → applied ≡ next → (count ≡ length u.who.seen) × (count ≤ 2 ^ 48)
+    → next < count → MayTake (record { seat = u; book = book; applied = applied; left = left }) next
+may_take v {u} {next = next} behind at all known below =
+    let same = behind_own v u.who behind in let count = known.0 in let most = known.1 in record {
+      next = omega (arith, at, same);
+      all = all;
+      known = omega (arith, below, count);
+      small = omega (arith, below, most);
+      synced = behind_synced v u.who next behind (omega (arith, below, count));
+    }
+
 -- what a command is taken up with leaves the own word
-pub took_own : (n applied : ℕ) (limits : Limits) (v u : Person) → TakesUp n limits applied v u → u.sequence ≡ v.sequence
+took_own : (n applied : ℕ) (limits : Limits) (v u : Person) → TakesUp n limits applied v u → u.sequence ≡ v.sequence
 took_own n applied limits v u (inl next) = ap (λ (p : Person). p.sequence) next.1.2.2 ∙ behind_own v next.1.0 next.1.1
 took_own n applied limits v u (inr on) = ap (λ (p : Person). p.sequence) on.1
 
 -- a command is under way: it was taken up, or had been
-pub record UnderWay (n : ℕ) (p b : AtBook) : Type 0 where
-  pub taken : TakesUp n p.book.limits p.applied p.seat.who b.seat.who
-  pub same : b.book.limits ≡ p.book.limits
+pub record UnderWay (n : ℕ) (limits : Limits) (p b : AtBook) : Type 0 where
+  pub taken : TakesUp n limits p.applied p.seat.who b.seat.who
+  pub same : b.book.limits ≡ limits
   pub one : b.applied ≡ suc b.seat.who.sequence
   pub working : IsWorking b
 
-pub took_one : (n next : ℕ) (p b : AtBook) (u : Person) → p.applied ≡ next → next ≡ p.seat.who.sequence → BehindBoth p.seat.who u
-    → (e : Message) × (get_elem? u.seen u.sequence ≡ some e) × (b.seat.who ≡ after_reading n p.book.limits u e)
-    → (b.applied ≡ suc next) × (b.book.limits ≡ p.book.limits) → IsWorking b → UnderWay n p b
-took_one n next p b u all own behind read applied working =
-    let taken : TakesUp n p.book.limits p.applied p.seat.who b.seat.who = inl (all ∙ own, (u, behind, read)) in
-    record {
+pub took_one : {n next : ℕ} {limits : Limits} {p b : AtBook} {u : Person} → p.applied ≡ next
+    → next ≡ p.seat.who.sequence → BehindBoth p.seat.who u
+    → (e : Message) × (get_elem? u.seen u.sequence ≡ some e) × (b.seat.who ≡ after_reading n limits u e)
+    → (b.applied ≡ suc next) × (b.book.limits ≡ p.book.limits) → p.book.limits ≡ limits → IsWorking b
+    → UnderWay n limits p b
+took_one {n} {limits = limits} {p = p} {b = b} {u = u} all own behind read applied same working =
+    let taken : TakesUp n limits p.applied p.seat.who b.seat.who = inl (all ∙ own, (u, behind, read)) in record {
       taken = taken;
-      same = applied.1;
-      one = applied.0
-          ∙ ap suc (own ∙ sym (took_own n p.applied p.book.limits _ _ taken));
+      same = applied.1 ∙ same;
+      one = applied.0 ∙ ap suc (own ∙ sym (took_own n p.applied limits _ _ taken));
       working = working;
     }
 
-pub goes_on : (n : ℕ) (p : AtBook) → IsWorking p → p.seat.who.sequence < p.applied → UnderWay n p p
-goes_on n p working under_way =
-    let counts = working.counts in
-    record { taken = inr (under_way, refl); same = refl; one = omega (arith, counts, under_way); working = working }
+pub goes_on : {n : ℕ} {limits : Limits} {p : AtBook} → IsWorking p → p.book.limits ≡ limits
+    → p.seat.who.sequence < p.applied → UnderWay n limits p p
+goes_on working same under_way = let counts = working.counts in
+    record { taken = inr (under_way, refl); same = same; one = omega (arith, counts, under_way); working = working }
 
-module _ (n m g : ℕ) (limits : Limits) (p b : AtBook) (is : p.book.limits ≡ limits) (begun : UnderWay n p b) where
-  -- it was taken up by these limits
-  pub taken_up : TakesUp n limits p.applied p.seat.who b.seat.who
-  taken_up = subst (λ (l : Limits). TakesUp n l p.applied p.seat.who b.seat.who) is begun.taken
+-- behind the rounds q is left of the command that was under way
+module _ {n : ℕ} {limits : Limits} {p b q : AtBook} (m g : ℕ) (begun : UnderWay n limits p b) (working : IsWorking q)
+    (kept : (q.applied ≡ b.applied) × (q.book ≡ b.book)) (own : q.seat.who.sequence ≡ b.seat.who.sequence) (t : Bool)
+    (puts : MatchBool t (PutsOutputs m g b.seat.who b.left q.seat.who) (PutsUntilFull m g b.seat.who b.left q.seat.who))
+  where
+    -- the outputs to be put were those left
+    were_left : b.left ≡ to_put limits b.seat.who
+    were_left = sym (left_to_put b.seat b.book b.applied b.left begun.working.follows begun.one)
+        ∙ ap (λ (l : Limits). to_put l b.seat.who) begun.same
 
-  -- then its outputs that aren't published are those left
-  are_left : to_put limits b.seat.who ≡ b.left
-  are_left = ap (λ (s : Limits). to_put s b.seat.who) (sym (begun.same ∙ is))
-      ∙ left_to_put b.seat b.book b.applied b.left begun.working.follows begun.one
+    one_now : q.applied ≡ suc q.seat.who.sequence
+    one_now = kept.0 ∙ begun.one ∙ ap suc (sym own)
 
-  -- and they were put, or some of them
-  pub put_all : (w : Person) (t : Bool) → MatchBool t (PutsOutputs m g b.seat.who b.left w)
-      (PutsUntilFull m g b.seat.who b.left w) → t ≡ true → PutsOutputs m g b.seat.who (to_put limits b.seat.who) w
-  put_all w t puts is = subst (λ (l : List Output). PutsOutputs m g b.seat.who l w) (sym are_left)
-      (subst (λ t. MatchBool t (PutsOutputs m g b.seat.who b.left w) (PutsUntilFull m g b.seat.who b.left w)) is puts)
-
-  put_some : (w : Person) (t : Bool) → MatchBool t (PutsOutputs m g b.seat.who b.left w)
-      (PutsUntilFull m g b.seat.who b.left w) → t ≡ false → PutsUntilFull m g b.seat.who (to_put limits b.seat.who) w
-  put_some w t puts is = subst (λ (l : List Output). PutsUntilFull m g b.seat.who l w) (sym are_left)
-      (subst (λ t. MatchBool t (PutsOutputs m g b.seat.who b.left w) (PutsUntilFull m g b.seat.who b.left w)) is puts)
-
-  module _ (q : AtBook) (kept : (q.applied ≡ b.applied) × (q.book ≡ b.book)) (own : q.seat.who.sequence ≡ b.seat.who.sequence)
-      (working : IsWorking q) where
-    pub still_one : q.applied ≡ suc q.seat.who.sequence
-    still_one = kept.0 ∙ begun.one ∙ ap suc (sym own)
-
-    -- what is left then is to be put
-    pub still_left : to_put limits q.seat.who ≡ q.left
-    still_left = ap (λ (s : Limits). to_put s q.seat.who) (sym (ap (λ (b : Book). b.limits) kept.1 ∙ begun.same ∙ is))
-        ∙ left_to_put q.seat q.book q.applied q.left working.follows still_one
+    -- and those left now are to be put
+    are_left : to_put limits q.seat.who ≡ q.left
+    are_left = ap (λ (l : Limits). to_put l q.seat.who) (sym (ap (λ (b : Book). b.limits) kept.1 ∙ begun.same))
+        ∙ left_to_put q.seat q.book q.applied q.left working.follows one_now
 
     -- a poll that leaves some of them had no room for more
-    pub out_full : (t : Bool) → MatchBool t (PutsOutputs m g b.seat.who b.left q.seat.who)
-        (PutsUntilFull m g b.seat.who b.left q.seat.who) → (q.left ≡ [] → t ≡ true) → t ≡ false
-        → Processes (sizes n m g) limits OutFull (record { who = p.seat.who; applied = p.applied })
-        (record { who = q.seat.who; applied = q.applied })
-    out_full t puts all is_not = (
+    pub out_full : (q.left ≡ [] → t ≡ true) → t ≡ false → Processes (sizes n m g) limits OutFull
+        (record { who = p.seat.who; applied = p.applied }) (record { who = q.seat.who; applied = q.applied })
+    out_full all is_not = (
       b.seat.who,
-      taken_up,
-      put_some q.seat.who t puts is_not,
-      (λ none. let whole = all (sym still_left ∙ none) in cc),
-      still_one,
+      begun.taken,
+      rw (← were_left) (rw is_not at puts),
+      (λ none. let whole = all (sym are_left ∙ none) in cc),
+      one_now,
+    )
+
+    -- one that leaves none is done with the entry
+    pub did_one : (t ≡ true → q.left ≡ []) → t ≡ true → {w : Person} → w ≡ moved q.seat.who q.applied
+        → Processes (sizes n m g) limits (Did 1) (record { who = p.seat.who; applied = p.applied })
+        (record { who = w; applied = q.applied })
+    did_one none is step = (
+      refl,
+      (
+        b.seat.who,
+        q.seat.who,
+        begun.taken,
+        rw (← were_left) (rw is at puts),
+        are_left ∙ none is,
+        step ∙ ap (moved q.seat.who) one_now,
+        sym (ap (λ (x : Person). x.sequence) step),
+      ),
     )

@@ -1,5 +1,6 @@
 -- What holds of the fields of a stage that holds more than a seat.
-use Rattle.std.specs.Prelude.{◌≡◌, ℕ, suc, ◌+◌, ◌<◌, ◌≤◌, false, List, [], length, take, drop, Some}
+use Rattle.std.specs.Prelude.{◌≡◌, ℕ, suc, ◌+◌, ◌^◌, ◌<◌, ◌≤◌, Bool, false, List, [], length, take, drop, Some}
+use Rattle.std.specs.Prelude.{MatchBool}
 use Rattle.venue_model.specs.History.{History}
 use Rattle.venue_model.specs.Requests.{Limits}
 use Rattle.venue_model.specs.declared.outputs.Output.{Output}
@@ -13,7 +14,9 @@ use Rattle.book.specs.Books.{Book}
 use Rattle.book.specs.Histories.{state_of, outputs_of}
 use Rattle.stages.specs.Kept.{HoldsDone, KeepsDone}
 use Rattle.stages.specs.Stations.{AtBook}
-use Rattle.stages.specs.Turns.{after_messages}
+use Rattle.sequencer.specs.Rooms.{SaysRoom}
+use Rattle.stages.specs.Processes.{PutsRound}
+use Rattle.stages.specs.Turns.{after_messages, next_block}
 
 -- the journal has just the entries that are done, while no append failed; and whatever a crash leaves has them
 pub record IsKeeping {D : Type 0} (honest : Type 0) (disk : Told) (who : Person) (journal : OneJournal D) : Type 0 where
@@ -35,9 +38,32 @@ pub record IsWorking (p : AtBook) : Type 0 where
   pub whole : p.applied ≡ p.seat.who.sequence → p.left ≡ []
   pub synced : p.seat.who.sequence < p.applied → p.seat.who.sequence < last_from journalled 0 p.seat.who.loads
 
+-- the command of the sequence s may be taken up: it is the next one, and was seen journalled
+pub record MayTake (p : AtBook) (s : ℕ) : Type 0 where
+  pub next : s ≡ p.seat.who.sequence
+  pub all : p.applied ≡ s
+  pub known : s < length p.seat.who.seen
+  pub small : s < 2 ^ 48
+  pub synced : s < last_from journalled 0 p.seat.who.loads
+
 -- the place behind the last of the outputs left
 abbrev pub upto : AtBook → ℕ
 upto p = p.seat.who.row.sequence + length p.left
+
+-- One round of the processor: some outputs were put, or there was no room for any. The others are left.
+pub record PutRound (m g : ℕ) (put : Bool) (old new : AtBook) : Type 0 where
+  pub own : new.seat.who.sequence ≡ old.seat.who.sequence
+  pub same_end : upto new ≡ upto old
+  pub puts : MatchBool put (PutsRound m g (upto old) old.seat.who new.seat.who)
+      (SaysRoom g m old.seat.who 0 new.seat.who)
+  pub working : IsWorking new
+
+-- the next block ends where upto says, and has some entries
+pub record EndsBlock (n upto : ℕ) (v : Person) : Type 0 where
+  pub at : upto ≡ v.sequence + length (next_block n v.sequence v.seen)
+  pub some : v.sequence < upto
+  pub most : upto ≤ v.sequence + 4096
+  pub small : upto ≤ 2 ^ 48
 
 -- the entries below upto, which stand from the own word on, were read
 pub record HasRead {L : Type 0} (n : ℕ) (v : At L) (upto : ℕ) (block : History) (w : At L) : Type 0 where

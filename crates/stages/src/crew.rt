@@ -81,7 +81,7 @@ impl<D: JournalDisk> Crew<D> {
         limits: &Limits,
         journal: Journal<D>,
         book: Book,
-    ) -> Result<CrewAndGateways<D>, Journal<D>>
+    ) -> Result<CrewAndGateways<D>, Journal<D>> // promise 11
         requires seats { AreNew G rings.now seats }
         requires limits { limits.now ≡ rings.now.logic }
         requires book { (book.limits ≡ rings.now.logic) × (book.state ≡ state_of rings.now.logic rings.now.base) }
@@ -120,7 +120,7 @@ impl<D: JournalDisk> Crew<D> {
     pub fn poll<const N: usize, const M: usize, const G: usize>(
         &mut self,
         rings: &Rings<BookLogic, N, M, G>,
-    ) -> Turns
+    ) -> Turns // promise 11
         requires at { AreAt rings.now self.old }
         ensures stays { AreAt rings.now self.new }
         ensures polls { Polls (sizes N M G) rings.now.logic self.old self.new result }
@@ -144,7 +144,7 @@ impl<D: JournalDisk> Crew<D> {
         self,
         rings: Rings<BookLogic, N, M, G>,
         gateways: Vec<GatewaySeat<BookLogic>>,
-    ) -> (Summary, D)
+    ) -> (Summary, D) // promise 11
         requires at { AreAt rings self }
         requires gateways { AreGateways rings gateways.items }
         requires count { vec_len gateways ≡ G }

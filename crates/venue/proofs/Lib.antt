@@ -10,3 +10,4 @@ mod MemberTurns
 mod PortLemmas
 mod HomeLemmas
 mod TradeLemmas
+mod RunLemmas

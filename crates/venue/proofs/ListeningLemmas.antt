@@ -7,7 +7,7 @@ use lib.ListN.{get_elem?}
 use Rattle.venue_model.specs.Counts.{Rose}
 use Rattle.venue_model.specs.History.{History}
 use Rattle.venue_model.specs.Requests.{Limits}
-use Rattle.disks.specs.Disk.{LeavesOnly}
+use Rattle.disks.specs.Disk.{Both, LeavesOnly}
 use Rattle.disks.specs.MomentLaws.{weaker}
 use Rattle.gateway.specs.Visits.{DayPart, WasServed, IsFirstOf, acts_in, reports_by, reports_for}
 use Rattle.journal.specs.Journals.{IsJournalFrom}
@@ -16,14 +16,18 @@ use Rattle.ring_words.specs.declared.view.Person.{Person}
 use Rattle.stages.specs.Devices.{Device}
 use Rattle.stages.specs.Journalling.{FailsOn}
 use Rattle.stages.specs.Stations.{disk_of}
-use Rattle.venue.specs.CrashLaws.{kept_honest, new_behind, still_behind}
+use Rattle.venue.specs.CrashLaws.{LeftOrBehind, kept_honest, kept_leaves, leaves_behind, new_behind, serve_leaves}
+use Rattle.venue.specs.CrashLaws.{still_behind}
 use Rattle.venue.specs.Crashes.{Behind}
 use Rattle.venue.specs.Faults.{status_of_end}
 use Rattle.venue.specs.Headline.{Boundary, IsJournalBy, IsJournalOf, KeepsTold, OneHistory, ServesMembers}
 use Rattle.venue.specs.Headline.{SeenListening}
 use Rattle.venue.specs.Listening.{Listens, EndsListening, end_of}
+use Rattle.venue.specs.Serving.{LeavesFrom}
+use Rattle.venue.specs.Venues.{IsJournalBehind}
 use Rattle.venue.proofs.HeadlineLemmas.{LeftOrOf, kept_same, started_by, taken_up, of_from, of_survivor, served_of}
 use Rattle.venue.proofs.KeepingLemmas.{Keeps, Same, polls_keep, both_leave, same_meanwhile, same_after}
+use Rattle.venue.proofs.ServingLemmas.{both_on}
 use Rattle.venue.proofs.ServedLemmas.{DayAt, counts_outputs, days, came_at}
 use Rattle.wires.specs.Ports.{Register}
 
@@ -186,13 +190,34 @@ module _ {D X : Type 0} (limits : Limits) (device : Device D) (tells : X
         (chosen.2 i day in_days) x y in_old in_new;
   }
 
--- what a run came to is what can be seen of it
-pub seen_listening : {D X : Type 0} (limits : Limits) (device : Device D) (tells : X
-    → Register) (old new : Boundary D X) (status : ℕ)
-    → ((d : D) → device.honest d → (c : List ℕ) → (device.tells d).left_since (device.tells d).moment c
-    → (device.tells d).may_leave c)
-    → EndsListening limits device tells old new status → SeenListening limits device tells old new status
-seen_listening limits device tells old new status only_now (inl (is, none)) =
-    inl (is, none.ports, kept_same _ _ (device.tells old.disk) (device.tells new.disk) limits none.disk)
-seen_listening limits device tells old new status only_now (inr it) =
-    inr (serves_members limits device tells old new status only_now it)
+-- What a run came to is what can be seen of it, and what a crash leaves.
+module _ {D X C : Type 0} {limits : Limits} {device : Device D} {tells : X → Register} {old new : Boundary D X}
+    {status : ℕ} (cleared : C)
+    (only_now : (d : D) → device.honest d → (c : List ℕ) → (device.tells d).left_since (device.tells d).moment c
+    → (device.tells d).may_leave c) where
+  pub ends_so : EndsListening limits device tells old new status → record {
+    ends : EndsListening limits device tells old new status;
+    seen : SeenListening limits device tells old new status;
+    cleared : C;
+    honest : Both (device.honest old.disk) (device.honest new.disk);
+    any_moment : device.honest old.disk → LeavesFrom (device.tells old.disk) (device.tells new.disk);
+  }
+  ends_so (inl (is, none)) = record {
+    ends = inl (is, none);
+    seen = inl (is, none.ports, kept_same _ _ _ _ limits none.disk);
+    cleared = cleared;
+    honest = kept_honest _ _ _ _ limits none.disk;
+    any_moment = kept_leaves _ _ _ _ limits none.disk;
+  }
+  ends_so (inr it) =
+      let then = kept_honest _ _ _ _ limits it.opened.keeps in let run = it.journals.any_moment in
+      let begun = device.tells (disk_of it.begun) in let ended = device.tells (disk_of it.ended) in record {
+        ends = inr it;
+        seen = inr (serves_members limits device tells old new status only_now it);
+        cleared = cleared;
+        honest = rw it.disk_is (both_on _ _ _ then run.honest);
+        any_moment = λ honest. rw it.disk_is (serve_leaves _ _ _ begun ended limits it.rings.base it.opened honest
+            (weaker begun ended (IsJournalBehind it.rings.base) (LeftOrBehind begun it.rings.base)
+            (leaves_behind it.rings.base _ _ begun ended (new_behind it.rings it.begun it.crew) it.journals.grows
+            (run.leaves (then.0 honest))) (λ c is. inr is)));
+      }

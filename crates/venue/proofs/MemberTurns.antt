@@ -4,7 +4,7 @@ use Rattle.std.proofs.Common.{refl, ap, sym, subst, ◌∙◌, append-nil, arith
 use Rattle.std.specs.Option.{is_some}
 use Rattle.std.specs.Prelude.{IfSome, option_to_list}
 use Rattle.venue_model.specs.Requests.{Limits}
-use Rattle.ring_words.specs.At.{Opened}
+use Rattle.ring_words.specs.At.{Opened, IsAt}
 use Rattle.gateway.specs.Accepting.{Accepting, Admits, TakesTurn, Leaves}
 use Rattle.gateway.specs.AcceptingLaws.{still, one_step}
 use Rattle.gateway.specs.declared.ending.Turned.{Turned}
@@ -12,7 +12,7 @@ use Rattle.gateway.specs.declared.ending.Turned.TheVariants.{Worked, Quiet, Ende
 use Rattle.venue.specs.Leaving.{LeavesOn, LeaveOn, IsSeenOff, told_leaving}
 use Rattle.venue.specs.declared.leaving.Leaving.{Leaving}
 use Rattle.venue.specs.Trading.{AtPort, HasClient, TookTurn, TradesOn}
-use Rattle.venue.specs.TradingLaws.{all_stay, more-nil}
+use Rattle.venue.specs.TradingLaws.{all_stay, more-nil, more_turns, no_turn}
 use Rattle.venue.specs.Turning.{IsAtRest, SendsOn, SentOn, outcome_at}
 use Rattle.venue.specs.declared.member.Desk.{Desk}
 use Rattle.wires.specs.Ports.{Register, with_more}
@@ -167,6 +167,25 @@ waited_for rings a before behind register leaves = record {
   leave = (leaves, tt);
 }
 
+-- Nobody leaves, and nobody left.
+pub nobody_left : {W same : Type 0} (tells : W → Told) (flushed shuts : W → W → Type 0) (rings : Opened Limits)
+    (a : Accepting) (old new : Option (Leaving W)) (register : Register) → old ≡ None → new ≡ None
+    → IsAt rings a.gateway.seat → HasClient a.wire (told_leaving tells old) register.out → same → record {
+      goes : TradesOn rings (at_door a (told_leaving tells old) register) rings
+          (at_door a (told_leaving tells new) register);
+      at : IsAt rings a.gateway.seat;
+      one : HasClient a.wire (told_leaving tells new) register.out;
+      off : IsSeenOff tells flushed shuts old new;
+      others : same;
+    }
+nobody_left tells flushed shuts rings a old new register none gone at one same = record {
+  goes = rw (none, gone) (no_turn rings (at_door a None register));
+  at = at;
+  one = rw gone (rw none at one);
+  off = rw none gone;
+  others = same;
+}
+
 -- It has left.
 pub has_left : (rings : Opened Limits) (a : Accepting) (before behind : Told) (register after : Register)
     → LeavesOn before behind
@@ -244,34 +263,84 @@ of_none tells None P none = tt
 of_none tells (Some leaving) P none = absurd (cc none)
 
 -- Who left before a turn is the one who is seen off in it.
-pub seen_off : {W : Type 0} (tells : W → Told) (flushed shuts : W → W → Type 0) (old mid now new : Option (Leaving W))
+seen_off : {W : Type 0} (tells : W → Told) (flushed shuts : W → W → Type 0) (old mid now new : Option (Leaving W))
     → IfSome old (λ client. mid ≡ Some client) → now ≡ mid → IsSeenOff tells flushed shuts now new
     → IfSome old (λ client. IsSeenOff tells flushed shuts (Some client) new)
 seen_off tells flushed shuts None mid now new is same off = tt
 seen_off tells flushed shuts (Some client) mid now new is same off =
     subst (λ (l : Option (Leaving _)). IsSeenOff tells flushed shuts l new) (same ∙ is) off
 
--- A member came to what is the same in all that it tells.
-pub same_door : (rings : Opened Limits) (x : AtPort) (a b : Accepting) (l k : Option Told) (r s : Register)
-    → b ≡ a → k ≡ l → s ≡ r → TradesOn rings x rings (at_door a l r) → TradesOn rings x rings (at_door b k s)
-same_door rings x a b l k r s same_a same_l same_r trades =
-    subst (λ (c : Accepting). TradesOn rings x rings (at_door c k s)) (sym same_a)
-    (subst (λ (m : Option Told). TradesOn rings x rings (at_door a m s)) (sym same_l)
-    (subst (λ (t : Register). TradesOn rings x rings (at_door a l t)) (sym same_r) trades))
+-- The gateway took its turn at a desk, behind which it was tended, and who left was seen off.
+module _ {W : Type 0} (tells : W → Told) (flushed shuts : W → W → Type 0) (rings : Opened Limits)
+    (old mid now new : Desk W) (before between behind : Register) (moved : Bool)
+    (goes : TradesOn rings (at_door old.acceptor (told_leaving tells old.leaving) before) rings
+    (at_door mid.acceptor (told_leaving tells mid.leaving) before))
+    (took : TookTurn old.acceptor mid.acceptor moved)
+    (left : IfSome old.leaving (λ client. mid.leaving ≡ Some client)) (turns : mid.turns ≡ old.turns)
+    (acceptor : now.acceptor ≡ mid.acceptor) (leaving : now.leaving ≡ mid.leaving)
+    (sends : SendsOn tells flushed mid.turns now.turns now.acceptor.wire) (port : between ≡ before)
+    (then : TradesOn rings (at_door now.acceptor (told_leaving tells now.leaving) between) rings
+    (at_door new.acceptor (told_leaving tells new.leaving) behind))
+    (off : IsSeenOff tells flushed shuts now.leaving new.leaving)
+    (others : (new.acceptor ≡ now.acceptor) × (new.turns ≡ now.turns)) where
+  -- what that comes to, and what was done at the door behind it
+  abbrev Attends : Desk W → Register → Type 0 → Bool → Type 0
+  Attends last after looked result = record {
+    goes : TradesOn rings (at_door old.acceptor (told_leaving tells old.leaving) before) rings
+        (at_door last.acceptor (told_leaving tells last.leaving) after);
+    at : IsAt rings last.acceptor.gateway.seat;
+    one : HasClient last.acceptor.wire (told_leaving tells last.leaving) after.out;
+    turn : (result ≡ false → TookTurn old.acceptor last.acceptor false) × SentOn tells flushed old last;
+    off : IfSome old.leaving (λ client. IsSeenOff tells flushed shuts (Some client) last.leaving);
+    looked : looked;
+  }
 
--- What was sent on at a desk, of which nobody else has counted a turn, and whose gateway took its turn before.
-pub sent_on : {W : Type 0} (tells : W → Told) (flushed : W → W → Type 0) (old new : Desk W) (behind now : Accepting)
-    (moved : Bool) (before after : ℕ)
-    → TookTurn old.acceptor behind moved → SendsOn tells flushed before after now.wire → before ≡ old.turns
-    → new.turns ≡ after → now ≡ behind → SentOn tells flushed old new
-sent_on tells flushed old new behind now moved before after took sends was is same = record {
-  behind = behind;
-  moved = moved;
-  took = took;
-  sends = subst (λ (n : ℕ). SendsOn tells flushed n new.turns behind.wire) was
-      (subst (λ (n : ℕ). SendsOn tells flushed before n behind.wire) (sym is)
-      (subst (λ (a : Accepting). SendsOn tells flushed before after a.wire) same sends));
-}
+  went : TradesOn rings (at_door old.acceptor (told_leaving tells old.leaving) before) rings
+      (at_door new.acceptor (told_leaving tells new.leaving) behind)
+  went = more_turns _ _ _ _ _ _ (rw (acceptor, leaving, port) goes) then
+
+  took_none : moved ≡ false → TookTurn old.acceptor new.acceptor false
+  took_none none = rw (others.0, acceptor) (rw none at took)
+
+  sent : (last : Desk W) → last.turns ≡ new.turns → SentOn tells flushed old last
+  sent last same = record {
+    behind = mid.acceptor;
+    moved = moved;
+    took = took;
+    sends = rw (same, others.1, ← turns, ← acceptor) sends;
+  }
+
+  -- nobody may come
+  pub attends_alone : (looked : Type 0) (result : Bool) → (result ≡ false → moved ≡ false)
+      → IsAt rings new.acceptor.gateway.seat
+      → HasClient new.acceptor.wire (told_leaving tells new.leaving) behind.out → looked
+      → Attends new behind looked result
+  attends_alone looked result quiet at one look = record {
+    goes = went;
+    at = at;
+    one = one;
+    turn = (λ is. took_none (quiet is), sent new refl);
+    off = seen_off tells flushed shuts old.leaving mid.leaving now.leaving new.leaving left leaving off;
+    looked = look;
+  }
+
+  -- or one may, behind that
+  pub attends_and_admits : (last : Desk W) (after : Register) (looked : Type 0) (come result : Bool)
+      → (result ≡ false → (moved ≡ false) × (come ≡ false))
+      → TradesOn rings (at_door new.acceptor (told_leaving tells new.leaving) behind) rings
+      (at_door last.acceptor (told_leaving tells last.leaving) after)
+      → IsAt rings last.acceptor.gateway.seat
+      → HasClient last.acceptor.wire (told_leaving tells last.leaving) after.out
+      → (last.leaving ≡ new.leaving) × (last.turns ≡ new.turns) → (come ≡ false → last.acceptor ≡ new.acceptor)
+      → looked → Attends last after looked result
+  attends_and_admits last after looked come result quiet admits at one same none look = record {
+    goes = more_turns _ _ _ _ _ _ went admits;
+    at = at;
+    one = one;
+    turn = (λ is. rw (none (quiet is).1) (took_none (quiet is).0), sent last same.1);
+    off = rw same.0 (seen_off tells flushed shuts old.leaving mid.leaving now.leaving new.leaving left leaving off);
+    looked = look;
+  }
 
 -- Where its thread rests behind a turn, nothing moved in it.
 pub rest_is_quiet : (held moved pressed wanted : Bool) → IsAtRest (outcome_at held moved pressed wanted) → moved ≡ false

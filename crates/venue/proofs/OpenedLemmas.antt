@@ -1,5 +1,5 @@
 -- The venue's rings as they are opened: their size is right, and the one gateway's seat is the first.
-use Rattle.std.proofs.Common.{◌≡◌, ◌&&◌, ℕ, true, false, List, [], ◌∷◌, ◌++◌, length, refl, ap, sym, subst, ◌∙◌, arith}
+use Rattle.std.proofs.Common.{◌≡◌, ◌&&◌, ℕ, true, false, List, [], ◌∷◌, ◌++◌, length, refl, ap, sym, ◌∙◌, arith}
 use Rattle.std.proofs.Common.{length-append}
 use lib.Count.{ones, ones_in}
 use lib.ListN.{get_elem?}
@@ -12,8 +12,7 @@ use Rattle.book.specs.Books.{Book}
 use Rattle.book.specs.Histories.{state_of, outputs_of}
 use Rattle.journal.specs.Journals.{OneJournal}
 use Rattle.stages.specs.Crews.{new_crew}
-use Rattle.stages.specs.Stations.{OneCrew}
-use Rattle.venue.specs.Opened.{AreBehind, IsNewCrew}
+use Rattle.venue.specs.Opened.{AreBehind, IsBookOf, IsNewCrew}
 use Rattle.venue.specs.VenueRings.{IsFirstSeat}
 
 -- the rings have a right size
@@ -50,13 +49,18 @@ by_own_cut limits at cut base rings is behind =
       base_outputs = own_outputs at base rings behind ∙ ap (λ (l : Limits). length (outputs_of l rings.base)) own;
     }
 
--- stages that were made at them are new
-pub made_new : {D : Type 0} (rings : Opened Limits) (crew : OneCrew D) (journal : OneJournal D) (book : Book)
-    → crew ≡ new_crew rings journal book → journal.failed ≡ false → book.limits ≡ rings.logic
-    → book.state ≡ state_of rings.logic rings.base → IsNewCrew rings crew
-made_new rings crew journal book made ready limits state =
-    subst (λ (c : OneCrew _). IsNewCrew rings c) (sym made)
-    (record { crew_is = refl; ready = ready; book_is = record { limits = limits; state = state } })
+-- a book that was taken up with a history is that of rings which were opened behind it
+pub book_of : (limits : Limits) {at : Limits} {cut : ℕ} {past : History} {rings : Opened Limits} (book : Book)
+    → at ≡ record limits { cut = cut } → AreBehind at past rings → book.limits ≡ record limits { cut = cut }
+    → book.state ≡ state_of book.limits past → IsBookOf rings book
+book_of limits {rings = rings} book at_is behind table state =
+    let same : book.limits ≡ rings.logic = rw (behind.logic, at_is) table in
+    record { limits = same; state = rw (behind.base_is, ← same) state }
+
+-- stages that were made at them with it are new
+pub made_new : {D : Type 0} (rings : Opened Limits) (journal : OneJournal D) (book : Book) → journal.failed ≡ false
+    → IsBookOf rings book → IsNewCrew rings (new_crew rings journal book)
+made_new rings journal book ready is = record { crew_is = refl; ready = ready; book_is = is }
 
 module _ {L : Type 0} (rings : Opened L) where
   -- and so it is after a step

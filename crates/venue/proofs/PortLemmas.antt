@@ -24,6 +24,12 @@ written xs all n count long =
     ap (λ ys. take n (xs ++ ys)) (drop_all (length xs) all (omega (arith, long)))
     ∙ ap (take n) (append-nil xs) ∙ ap (λ (k : ℕ). take k xs) (omega (arith, count, long)) ∙ take-length xs
 
+-- and tells what it told
+pub told_back : {A B : Type 0} (f : A → B) (xs first all : List A) (n : ℕ) → n ≡ length all → first ≡ all
+    → length xs ≡ length first → map f xs ≡ map f first → map f (take n (xs ++ drop (length xs) all)) ≡ map f all
+told_back f xs first all n count is long same =
+    ap (map f) (written xs all n count (rw (← is) long)) ∙ same ∙ ap (map f) is
+
 -- what holds of the first ones, and of the next one that is set, holds of one more
 pub one_more_set : {A : Type 0} (P : A → Type 0) (xs : List A) (n : ℕ) (v : A) → P v
     → ((i : ℕ) (x : A) → i < n → get_elem? xs i ≡ some x → P x)

@@ -1,5 +1,5 @@
 -- What a run of the mode `-` comes to.
-use Rattle.std.specs.Prelude.{◌≡◌, ◌⊎◌, ℕ, [], ◌∷◌, Result}
+use Rattle.std.specs.Prelude.{◌≡◌, ◌⊎◌, ℕ, false, [], ◌∷◌, Result}
 use Rattle.venue_model.specs.Counts.{Rose}
 use Rattle.venue_model.specs.History.{History}
 use Rattle.venue_model.specs.Requests.{Limits}
@@ -10,10 +10,13 @@ use Rattle.wires.specs.Wires as wires
 use Rattle.disks.specs.Disk.{Told, LeavesOnly}
 use Rattle.journal.specs.Format.{IsJournal}
 use Rattle.replay.specs.StartsUp.{KeepsHistory, IsStarted}
+use Rattle.ring_words.specs.At.{Opened, At, IsAt}
 use Rattle.ring_words.specs.declared.close.Summary.{Summary}
 use Rattle.venue.specs.Faults.{status_of_end}
-use Rattle.stages.specs.Stations.{disk_of}
+use Rattle.stages.specs.Stations.{OneCrew, disk_of}
+use Rattle.stages.specs.Crews.{AreAt}
 use Rattle.stages.specs.Finishing.{Finished}
+use Rattle.venue.specs.Crashes.{Behind}
 use Rattle.venue.specs.Opened.{AreBehind, IsNewCrew, ReadsByCut}
 use Rattle.venue.specs.Rounds.{Served}
 use Rattle.venue.specs.VenueRings.{IsFirstSeat}
@@ -37,6 +40,14 @@ pub record Outside (D : Type 0) : Type 0 where
   pub wire : wires.Told
 
 module _ {D : Type 0} where
+  -- The seat is at these rings, and so are the stages. Their journal hasn't failed, and what it has begins with the
+  -- history at the start.
+  pub record MayServe (rings : Opened Limits) (here : At Limits) (stages : OneCrew D) : Type 0 where
+    pub seat : IsAt rings here
+    pub crew : AreAt rings stages
+    pub ready : stages.journaller.journal.failed ≡ false
+    pub behind : Behind rings.base stages.journaller.seat.who
+
   -- Gateway 1 has begun a session, and nothing was done: the venue stands behind the journal's history, which it reads by the journal's cut,
   -- and so does the gateway's seat.
   pub record Opens (limits : Limits) (device : Device D) (old : Outside D) (s : Venue D) : Type 0 where

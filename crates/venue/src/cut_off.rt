@@ -40,7 +40,7 @@ pub fn listen_cut_off<
     sign: &mut S,
     out: &mut O,
     err: &mut E,
-) -> (u8, D, Vec<Box<X>>)
+) -> (u8, D, Vec<Box<X>>) // promise 12
     requires gateways { (1 ≤ G) × (G ≤ 8) }
     requires ports { (vec_len ports ≡ G) × AreFree (in_box X.tells) ports.items }
     ensures { SeenCutOff limits (device D.honest D.tells D.failed) (in_box X.tells) (boundary disk ports.items)

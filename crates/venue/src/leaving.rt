@@ -21,7 +21,7 @@ pub struct Leaving<W> {
 
 impl<W: ClientWire + Drop> Leaving<W> {
     /// The client of this wire leaves.
-    pub fn of(wire: W) -> Leaving<W>
+    pub fn of(wire: W) -> Leaving<W> // promise 12
         ensures { BeginsLeaving wire result }
     {
         Leaving {
@@ -33,7 +33,7 @@ impl<W: ClientWire + Drop> Leaving<W> {
 
     /// Sends what is left, says that this was all, and reads over what the client still sends. Says whether the client
     /// has closed its side too, its wire failed, or it was waited for long enough.
-    pub fn has_left(&mut self) -> bool
+    pub fn has_left(&mut self) -> bool // promise 12
         ensures { GoesOnLeaving W.tells W.flushed (ShutsLast W.holds W.failed W.was_shut) self.old self.new result }
     {
         if self.turns_left == 0 {

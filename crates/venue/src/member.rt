@@ -366,7 +366,7 @@ pub fn trade<
     post: Post<W>,
     mut port: Box<X>,
     signals: &Signals,
-) -> (GatewaySeat<BookLogic>, Box<X>)
+) -> (GatewaySeat<BookLogic>, Box<X>) // promise 12
     requires begun { (post.desk.value.acceptor ≡ without_client rings.now post.number) × (told_leaving W.tells post.desk.value.leaving ≡ None) }
     requires opened { (X.tells port.value).is_open ≡ true }
     requires free { (X.tells port.value).out ≡ false }

@@ -165,18 +165,12 @@ fn last_post<W: ClientWire + Drop, const G: usize>(
 }
 
 /// What came back, and the next member's seat and port.
-fn with_member<X: Port, const G: usize>(
-    rings: &VenueRings<G>,
-    home: Home<X>,
-    seat: GatewaySeat<BookLogic>,
-    port: Box<X>,
-) -> Home<X>
+fn with_member<X: Port>(home: Home<X>, seat: GatewaySeat<BookLogic>, port: Box<X>) -> Home<X>
     requires room { (vec_len home.seats < vec_capacity home.seats) × (vec_len home.ports < vec_capacity home.ports) }
     ensures seats { result.seats.items ≡ home.seats.items ++ seat ∷ [] }
     ensures ports { result.ports.items ≡ home.ports.items ++ port ∷ [] }
     ensures room { (vec_capacity result.seats ≡ vec_capacity home.seats) × (vec_capacity result.ports ≡ vec_capacity home.ports) }
 {
-    let _rings = rings;
     let Home {
         mut seats,
         mut ports,
@@ -256,5 +250,5 @@ pub fn trade_all<
             ensures { IsBack rings.entry.now post.number result.0 (X.tells port.value) (X.tells result.1.value) }
         { trade(rt, gate, rings, alloc, post, port, signals) },
     );
-    with_member(rings, home, seat, port)
+    with_member(home, seat, port)
 }

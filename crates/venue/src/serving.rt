@@ -1,6 +1,6 @@
 //! The mode `-`: one client's session over a wire, its turns and the polls of the stages taken one behind the other on
 //! this thread.
-ghost use Rattle.std.specs.Prelude.{◌≡◌, ◌⊎◌, ◌↔◌, ◌≤◌, [], ◌∷◌, true, false, vec_len, OnOk, OnErr};
+ghost use Rattle.std.specs.Prelude.{◌≡◌, ◌⊎◌, ◌↔◌, ◌≤◌, [], ◌∷◌, true, vec_len, MatchResult};
 ghost use Rattle.std.specs.Vec.{vec_capacity};
 ghost use Rattle.ring_words.specs.At.{IsAt};
 ghost use Rattle.ring_words.specs.Crew.{AreNewGateways};
@@ -12,9 +12,8 @@ ghost use Rattle.stages.specs.Crews.{AreAt, AreIdle};
 ghost use Rattle.stages.specs.Finishing.{Finished};
 ghost use Rattle.venue.specs.Faults.{status_of_end};
 ghost use Rattle.venue.specs.Rounds.{Served, DeliversOn};
-ghost use Rattle.venue.specs.Crashes.{Behind};
 ghost use Rattle.venue.specs.Headline.{SeenServing, seen};
-ghost use Rattle.venue.specs.Serving.{LeavesFrom, IsStatus, EndsWith};
+ghost use Rattle.venue.specs.Serving.{LeavesFrom, IsStatus, MayServe, EndsWith};
 ghost use Rattle.venue.specs.VenueRings.{IsFirstSeat};
 ghost use Rattle.stages.specs.Devices.{device};
 ghost use Rattle.venue.specs.Venues.{venue, IsJournalBehind};
@@ -41,7 +40,7 @@ pub fn serve<D: JournalDisk, W: Wire, E: Write>(
     disk: D,
     wire: &mut W,
     err: &mut E,
-) -> (u8, D)
+) -> (u8, D) // promise 11
     ensures status { IsStatus (W.tells wire.old) (W.tells wire.new) (D.failed disk) (D.failed result.1) result.0 }
     ensures untouched { result.0 ≡ 1 → wire.new ≡ wire.old }
     ensures served { EndsWith limits (device D.honest D.tells D.failed) (record { disk = disk; wire = W.tells wire.old })
@@ -129,9 +128,7 @@ fn take_turns<D: JournalDisk, W: Wire>(
     wire: &mut W,
 ) -> Result<(), ServeFault>
     requires live { gateway.old.front.live ≡ true }
-    requires at { IsAt rings.now gateway.old.seat × AreAt rings.now crew.old }
-    requires ready { crew.old.journaller.journal.failed ≡ false }
-    requires behind { Behind rings.now.base crew.old.journaller.seat.who }
+    requires may { MayServe rings.now gateway.old.seat crew.old }
     ensures honest { Both (D.honest (disk_of crew.old)) (D.honest (disk_of crew.new)) }
     ensures any_moment { D.honest (disk_of crew.old) → LeavesOnly (D.tells (disk_of crew.old)) (D.tells (disk_of crew.new))
         (λ file. (D.tells (disk_of crew.old)).may_leave file ⊎ IsJournalBehind rings.now.base file) }
@@ -140,8 +137,8 @@ fn take_turns<D: JournalDisk, W: Wire>(
     ensures delivers { DeliversOn (venue rings.now gateway.old crew.old (W.tells wire.old))
         (venue rings.now gateway.new crew.new (W.tells wire.new)) }
     ensures stays { IsAt rings.now gateway.new.seat × (gateway.new.seat.who.role ≡ gateway.old.seat.who.role) × AreAt rings.now crew.new }
-    ensures failed { OnErr result (Rose (D.failed (disk_of crew.old)) (D.failed (disk_of crew.new))) }
-    ensures counts { OnOk result (D.failed (disk_of crew.new) ≡ D.failed (disk_of crew.old)) }
+    ensures counts { MatchResult result (λ _. D.failed (disk_of crew.new) ≡ D.failed (disk_of crew.old))
+        (λ _. Rose (D.failed (disk_of crew.old)) (D.failed (disk_of crew.new))) }
 {
     for _round in 0..u64::MAX {
         let turned = gateway.turn(rings, wire);

@@ -91,7 +91,7 @@ pub struct StopFile<N: Names> {
 
 impl<'a, R: Files + AllocGlobal> StopFile<SystemNames<'a, R>> {
     /// The file beside the journal of this name, which is another file than that.
-    pub fn beside(files: &'a R, journal: &str) -> Result<StopFile<SystemNames<'a, R>>, AllocError>
+    pub fn beside(files: &'a R, journal: &str) -> Result<StopFile<SystemNames<'a, R>>, AllocError> // promise 12
         ensures named { IfOk result (λ sign. string_bytes sign.path ≡ journal.now ++ codes ".stop") }
         ensures other { IfOk result (λ sign. string_bytes sign.path ≢ journal.now) }
     {
@@ -101,7 +101,7 @@ impl<'a, R: Files + AllocGlobal> StopFile<SystemNames<'a, R>> {
     }
 }
 
-impl<N: Names> StopSign for StopFile<N> {
+impl<N: Names> StopSign for StopFile<N> { // promise 12
     ghost use Rattle.venue.specs.Stopping.{removed_file, looked_at_file};
 
     ghost cleared = { λ x y. removed_file N.removed x y };

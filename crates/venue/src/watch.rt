@@ -100,7 +100,7 @@ pub fn watch<'a, C: Clock, G: Signalling, S: StopSign, O: Write>(
     sign: &mut S,
     out: &mut O,
     recovered: Recovered,
-) -> bool
+) -> bool // promise 12
     ensures watches { HasWatched ⟦<Machine<'a, C> as Pauses>⟧.paused S.looked
         (signals_say (G.begun signals.now) (G.awaited signals.now) (G.told signals.now)) result sign.old sign.new }
     ensures stopped { G.stopped signals.now }

@@ -1,9 +1,8 @@
 -- One turn more, the last one, and all of them without the rests between.
-use Rattle.std.proofs.Common.{◌≡◌, ◌∙◌, ◌⊎◌, inl, inr, ℕ, zero, suc, ◌+◌, ◌<◌, Bool, true, false}
-use Rattle.std.proofs.Common.{arith, ap, sym, subst, refl, add-one}
+use Rattle.std.proofs.Common.{◌≡◌, ◌∙◌, ℕ, zero, suc, ◌+◌, Bool, true, false, ap, sym, subst, refl, add-one}
 use Rattle.workers.specs.declared.worker.Outcome.{Outcome}
 use Rattle.workers.specs.declared.worker.Outcome.TheVariants.{Worked, Moved, Idle, Pressed, Over}
-use Rattle.workers.specs.Resting.{Moments, has_more}
+use Rattle.workers.specs.Resting.{Moments, ThreadRests, has_more}
 use Rattle.workers.specs.declared.worker.Ended.{Ended}
 use Rattle.workers.specs.declared.worker.Ended.TheVariants as ended
 use Rattle.workers.specs.Working.{Thread, TurnAndRest, TakesTurns, Ends}
@@ -16,15 +15,17 @@ is_over Idle none = let no : true ≡ false = none in cc
 is_over Pressed none = let no : true ≡ false = none in cc
 is_over Over none = refl
 
-module _ {W : Type 0} (took : Outcome → W → W → Type 0) where
-  pub one_more : (k : ℕ) (old mid new : W) (outcome : Outcome) (on : Bool) → TakesTurns took k old mid
-      → took outcome mid new → on ≡ has_more outcome → on ≡ true → TakesTurns took (k + 1) old new
-  one_more k old mid new outcome on before turn is goes = rw add-one (mid, before, (outcome, sym is ∙ goes, turn))
+-- A turn, its rest, and whether there is one more.
+module _ {W P : Type 0} (took : Outcome → W → W → Type 0) (m : Moments P) (mid new : Thread W P) (outcome : Outcome)
+    (on : Bool) (turn : took outcome mid.worker new.worker) (rest : ThreadRests m outcome mid.rest new.rest)
+    (is : on ≡ has_more outcome) where
+  pub one_more : (k : ℕ) (old : Thread W P) → TakesTurns (TurnAndRest took m) k old mid → on ≡ true
+      → TakesTurns (TurnAndRest took m) (k + 1) old new
+  one_more k old before goes = rw add-one (mid, before, (outcome, sym is ∙ goes, record { takes = turn; rests = rest }))
 
-  pub the_last : (mid new : W) (outcome : Outcome) (on : Bool) → took outcome mid new → on ≡ has_more outcome
-      → on ≡ false → took Over mid new
-  the_last mid new outcome on turn is ends =
-      subst (λ (o : Outcome). took o mid new) (is_over outcome (sym is ∙ ends)) turn
+  pub the_last : on ≡ false → TurnAndRest took m Over mid new
+  the_last ends = subst (λ (o : Outcome). TurnAndRest took m o mid new) (is_over outcome (sym is ∙ ends))
+      (record { takes = turn; rests = rest })
 
 -- the turns without the rests
 module _ {W P : Type 0} (took : Outcome → W → W → Type 0) (m : Moments P) (told : Type 0) where
@@ -39,14 +40,3 @@ module _ {W P : Type 0} (took : Outcome → W → W → Type 0) (m : Moments P) 
   ends_alone ended.Over old new (k, mid, before, turn) = (k, mid.worker, turns_alone k old mid before, turn.takes)
   ends_alone ended.Told old new (has, (k, turns)) = (has, (k, turns_alone k old new turns))
   ends_alone ended.TookAll old new (k, is, turns) = (k, is, turns_alone k old new turns)
-
--- what polls come to, one or many of them
-module _ {S : Type 0} (goes : S → S → Type 0) where
-  pub one_on : ((x y z : S) → goes x y → goes y z → goes x z) → (k : ℕ) (old mid new : S)
-      → ((k ≡ 0) × (mid ≡ old)) ⊎ goes old mid → goes mid new → goes old new
-  one_on further k old mid new (inl first) poll = subst (λ (x : S). goes x new) first.1 poll
-  one_on further k old mid new (inr before) poll = further old mid new before poll
-
-  pub some_on : (k : ℕ) (old new : S) → 0 < k → ((k ≡ 0) × (new ≡ old)) ⊎ goes old new → goes old new
-  some_on k old new some (inl none) = let is = none.0 in absurd (omega (arith, some, is))
-  some_on k old new some (inr has_more) = has_more

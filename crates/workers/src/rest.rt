@@ -340,7 +340,7 @@ impl<P: Pauses> Rest<P> {
 
     /// Counts what a turn came to, where the thread is shy or not, and says what it does before the next one: nothing
     /// more behind the last.
-    pub fn count(&mut self, outcome: Outcome, shy: bool) -> Option<Pause>
+    pub fn count(&mut self, outcome: Outcome, shy: bool) -> Option<Pause> // promise 12
         ensures pause { result ≡ pause_after self.old.idle self.old.announced shy outcome }
         ensures idle { self.new.idle ≡ idle_after self.old.idle outcome }
         ensures announced { self.new.announced ≡ announced_after self.old.idle shy outcome }
@@ -391,7 +391,7 @@ impl<P: Pauses> Rest<P> {
     /// nothing to do it spins, then lets other threads run, then says that it rests, looks once more, and parks; work
     /// makes it spin again, and so does who wakes it. Where it let others run and another program had its core, threads
     /// are shy for a tenth of a second, which it tells its machine: who is shy lets nobody run, and parks soon.
-    pub fn goes_on(&mut self, outcome: Outcome) -> bool
+    pub fn goes_on(&mut self, outcome: Outcome) -> bool // promise 12
         ensures goes_on { result ≡ has_more outcome }
         ensures rests { ThreadRests (moments P.paused P.parked P.snoozed P.timed P.asked_until P.turned_shy)
             outcome self.old self.new }

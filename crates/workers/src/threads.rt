@@ -38,7 +38,7 @@ pub fn run<
     crew: Crew<D>,
     others: F,
     signals: &S,
-) -> (Crew<D>, X)
+) -> (Crew<D>, X) // promise 12
     requires rings { AreAt rings.now crew }
     requires others { F.pre others }
     ensures crew { WorksOn N rings.now (device D.honest D.tells D.failed) crew result.0

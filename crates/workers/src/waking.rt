@@ -21,7 +21,7 @@ const MARSHALLER: u64 = 0b1000;
 const GATEWAYS: u64 = 0b1111_1111_0000;
 
 /// The place of this worker's bit. Gateways 1 to 8 have one each.
-pub fn place(worker: Station) -> usize
+pub fn place(worker: Station) -> usize // promise 12
     ensures place { result ≡ bit_number worker }
     ensures range { result < PLACES }
 {
@@ -44,7 +44,7 @@ pub fn own(worker: Station) -> u64
 /// The bits of those who may have work by what this worker did. Of gateway and readers they are all stages down the
 /// line, so that these wake side by side, and not one behind the other. Nobody is woken for room in a ring: who waits
 /// for that looks again soon.
-pub fn wakes(worker: Station) -> u64
+pub fn wakes(worker: Station) -> u64 // promise 12
     ensures { result ≡ wakes worker }
 {
     match worker {

@@ -105,7 +105,7 @@ pub fn work<C: Clock, Q: Gate, W: Worker, S: Signalling>(
     worker: &mut W,
     parking: Option<(Parking, Waker)>,
     signals: &S,
-) -> Ended
+) -> Ended // promise 12
     ensures goes { W.goes worker.old worker.new }
     ensures ends { Ends W.took (S.told signals.now) result worker.old worker.new }
 {

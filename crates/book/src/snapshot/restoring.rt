@@ -26,7 +26,7 @@ pub struct Restored {
 
 impl Book {
     /// The book of a venue with these limits that the bytes of a snapshot spell. `Memory` says nothing of the bytes.
-    pub fn restore(alloc: Global, bytes: &[u8], limits: &Limits) -> Result<Book, RestoreFault>
+    pub fn restore(alloc: Global, bytes: &[u8], limits: &Limits) -> Result<Book, RestoreFault> // promises 3, 15
         ensures limits { IfOk result (λ b. b.limits ≡ limits.now) }
         ensures spelled { IfOk result (λ b. (commands told : ℕ)
             × SnapshotOf limits.now.symbols b.state commands told bytes.now) }
@@ -44,7 +44,7 @@ impl Book {
 impl Restored {
     /// The book of a venue with this logic that the bytes of a snapshot spell, and the counts behind it: its own
     /// snapshot with these counts has the same bytes. `Memory` says nothing of the bytes.
-    pub fn of(alloc: Global, bytes: &[u8], logic: BookLogic) -> Result<Restored, RestoreFault>
+    pub fn of(alloc: Global, bytes: &[u8], logic: BookLogic) -> Result<Restored, RestoreFault> // promise 3
         ensures limits { IfOk result (λ r. r.book.limits ≡ logic) }
         ensures spelled { IfOk result (λ r. SnapshotOf logic.symbols r.book.state r.commands r.outputs bytes.now) }
         ensures written { IfOk result (λ r. bytes.now ≡ snapshot_bytes logic.symbols r.commands r.outputs

@@ -14,7 +14,7 @@ impl Book {
     /// Writes the snapshot of its state to the front of a buffer, and answers how long it is: 82 bytes, and 47 for each
     /// order that rests. It is that of a book behind so many commands, which told so many outputs; neither count is
     /// known here. It takes no memory.
-    pub fn snapshot(&self, commands: u64, outputs: u64, buf: &mut [u8]) -> usize
+    pub fn snapshot(&self, commands: u64, outputs: u64, buf: &mut [u8]) -> usize // promises 3, 15
         requires room { 82 + 47 * length self.now.state.orders ≤ length buf.old }
         ensures long { result ≡ 82 + 47 * length self.now.state.orders }
         ensures written { buf.new ≡ snapshot_bytes self.now.limits.symbols commands outputs self.now.state.greatest

@@ -20,7 +20,7 @@ pub fn release_kept<L: Logic, const N: usize, const M: usize, const G: usize, K:
     requires at { IsAt rings.now seat.old }
     requires from { seat.old.who.sequence ≤ upto }
     requires to { upto ≤ length seat.old.who.seen }
-    requires kept { K.keeps kept.now (take upto seat.old.who.seen) }
+    requires kept { K.keeps kept.now (take upto seat.old.who.seen) } // promise 7
     ensures step { Steps seat.old (moved seat.old.who upto) seat.new }
 {
     rings

@@ -116,10 +116,10 @@ pub fn put_output<L: Logic, const N: usize, const M: usize, const G: usize>(
     rings: &Rings<L, N, M, G>,
     seat: &mut ProcessSeat<L>,
     output: &Output,
-)
+) // promise 6
     requires at { IsAt rings.now seat.old }
     requires room { HasOutputRoom G M seat.old.who seat.old.who.row.sequence }
-    requires synced { Shows journalled seat.old.who seat.old.who.sequence }
+    requires synced { Shows journalled seat.old.who seat.old.who.sequence } // promise 7
     requires next { get_elem? (L.outputs rings.now.logic (take (suc seat.old.who.sequence) seat.old.who.seen)) seat.old.who.row.sequence ≡ some output.now }
     ensures step { Steps seat.old (at_place seat.old.who (suc seat.old.who.row.sequence)) seat.new }
 {

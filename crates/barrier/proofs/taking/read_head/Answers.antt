@@ -1,22 +1,14 @@
 use Rattle.std.proofs.Common.{rules, arith, refl, length, ◌≤◌}
 use Rattle.ring_words.specs.Places.{marshalled}
 use Rattle.barrier.specs.Taking.{OnlyLoads}
-use Rattle.barrier.proofs.TextReading.{one_load, still_shows, still_own, still_at}
+use Rattle.barrier.proofs.TextReading.{one_load, still_may, still_at}
 use Rattle.barrier.proofs.taking.read_head.Goals as goal
 
 pub load_text-time-requires : goal.load_text-time-requires
 load_text-time-requires g c =
-    let v = c.args.seat.now in let u = c.load_text.new.seat in
-    let only : OnlyLoads v u = (_, c.load_text.ensures.step) in (
-      omega arith,
-      (
-        search rules,
-        (
-          still_own v u only c.args.place c.requires.from,
-          (still_shows v u only marshalled c.args.place c.requires.to, omega arith),
-        ),
-      ),
-    )
+    let may = still_may c.args.seat.now c.load_text.new.seat (_, c.load_text.ensures.step) marshalled c.args.place
+    c.requires.from c.requires.to in
+    (omega arith, (search rules, (may.0, (may.1, omega arith))))
 
 pub returns-clause-step : goal.returns-clause-step
 returns-clause-step g c =

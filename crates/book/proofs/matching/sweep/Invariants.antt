@@ -1,8 +1,9 @@
 -- What the definitions say of the match from here on, with what is told and read, is what they said at its start.
-use Rattle.std.proofs.Common.{◌≡◌, ℕ, ◌+◌, ◌*◌, ◌<◌, ◌≤◌, length}
+use Rattle.std.proofs.Common.{◌≡◌, ◌+◌, ◌*◌, ◌<◌, ◌≤◌, length}
 use Rattle.std.specs.Vec.{vec_len, vec_capacity}
 use Rattle.venue_model.specs.Orders.{leaves}
-use Rattle.book.specs.Standing.{InRange, IsBookList, Below}
+use Rattle.book.specs.Standing.{InRange}
+use Rattle.book.specs.Commands.{AreLeft}
 use Rattle.book.specs.Passes.{matching, Passed}
 use Rattle.book.specs.Reads.{fills}
 use Rattle.book.proofs.matching.sweep.Given as goal
@@ -12,9 +13,7 @@ invariant-fills l = record {
   passed : Passed l.cause (matching l.fn.incoming l.fn.orders l.fn.out.items)
       (matching l.incoming l.orders l.out.items);
   in_range : InRange l.incoming;
-  standing : IsBookList l.orders;
-  below : (sequence : ℕ) → Below sequence l.fn.orders → Below sequence l.orders;
-  no_longer : length l.orders ≤ length l.fn.orders;
+  left : AreLeft l.orders l.fn.orders l.orders;
   same_room : vec_capacity l.out ≡ vec_capacity l.fn.out;
   more : vec_len l.out ≤ vec_len l.fn.out + 2 * length l.fn.orders;
   most : 0 < leaves l.incoming → vec_len l.out + 2 * length l.orders ≤ vec_len l.fn.out + 2 * length l.fn.orders;

@@ -23,8 +23,7 @@ pub loop-rest-smaller : goal.loop-rest-smaller
 loop-rest-smaller c = rest_shorter _ _ _ c.in-Some.ensures
 
 pub loop-rest-preserved : goal.loop-rest-preserved
-loop-rest-preserved c =
-    let b = c.in-Some.ensures in
+loop-rest-preserved c = let b = c.in-Some.ensures in
     let some : 0 < length c.loop-rest.rest.now = grind (arith, nat_tests, c.loop-rest-test.ensures) in record {
       same = (
         (λ r. run_behind _ _ _ b (c.loop-rest.invariant.same.0 r)),
@@ -34,8 +33,7 @@ loop-rest-preserved c =
     }
 
 pub returns : goal.returns
-returns c =
-    let empty : length c.loop-rest.rest.now ≡ 0 = grind (arith, nat_tests, c.loop-rest-test.ensures) in
+returns c = let empty : length c.loop-rest.rest.now ≡ 0 = grind (arith, nat_tests, c.loop-rest-test.ensures) in
     let run = c.loop-rest.invariant.same.1 (subst IsRun (sym (nil_from_length c.loop-rest.rest.now empty))
     nothing_is_run) in
     ((λ t. run), (λ r. search rules))

@@ -10,11 +10,8 @@ returns-then-bytes-end c = λ fields is. c.if-bytes-end.true (frame_long _ _ _ c
 
 pub returns-then-not-is_closed : goal.returns-then-not-is_closed
 returns-then-not-is_closed c = λ fields is.
-    let due = rw (
-      take_rest c.split_at.result.0.now c.args.body,
-      c.split_at.ensures.front,
-      c.split_at.ensures.back,
-    ) at c.if-not-is_closed.ensures in
+    let rest = take_rest c.split_at.result.0.now c.args.body in let split = c.split_at.ensures in
+    let due = rw (rest, split.front, split.back) at c.if-not-is_closed.ensures in
     frame_closed _ _ _ c.requires c.if-bytes-end.false fields is (λ closed. let none = due.1 closed in absurd (cc))
 
 pub is_summed-requires-clause-short : goal.is_summed-requires-clause-short
@@ -22,23 +19,16 @@ is_summed-requires-clause-short c = rw c.split_at.ensures.front (short_front _ _
 
 pub returns-then-not-is_summed : goal.returns-then-not-is_summed
 returns-then-not-is_summed c = λ fields is.
-    let closed = rw (
-      take_rest c.split_at.result.0.now c.args.body,
-      c.split_at.ensures.front,
-      c.split_at.ensures.back,
-    ) at c.if-not-is_closed.ensures in
+    let rest = take_rest c.split_at.result.0.now c.args.body in let split = c.split_at.ensures in
+    let closed = rw (rest, split.front, split.back) at c.if-not-is_closed.ensures in
     let due = rw (c.split_at.ensures.front, c.split_at.ensures.back) at c.if-not-is_summed.ensures in
     frame_summed _ _ _ c.requires c.if-bytes-end.false fields is (closed.0 refl)
     (λ summed. let none = due.1 summed in absurd (cc))
 
 pub returns : goal.returns
-returns c =
-    let bytes = c.args.bytes.now in
-    let closed = rw (
-      take_rest c.split_at.result.0.now c.args.body,
-      c.split_at.ensures.front,
-      c.split_at.ensures.back,
-    ) at c.if-not-is_closed.ensures in
+returns c = let bytes = c.args.bytes.now in
+    let rest = take_rest c.split_at.result.0.now c.args.body in let split = c.split_at.ensures in
+    let closed = rw (rest, split.front, split.back) at c.if-not-is_closed.ensures in
     let summed = rw (c.split_at.ensures.front, c.split_at.ensures.back) at c.if-not-is_summed.ensures in
     let long = inside_long _ _ _ c.requires c.if-bytes-end.false in
     rw (take_rest c.split_at.result.0.now c.args.body, c.split_at.ensures.front) (record {

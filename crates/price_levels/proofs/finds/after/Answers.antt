@@ -1,8 +1,5 @@
 -- The neighbour, or else the first order of the next level.
-use Rattle.std.proofs.Common.{refl, arith, sym, subst}
-use Rattle.std.specs.Prelude.{MatchOption}
-use Rattle.price_levels.specs.Places.{NoneBehind, NextBehind}
-use Rattle.price_levels.specs.Arena.{places_of}
+use Rattle.std.proofs.Common.{refl, arith}
 use Rattle.price_levels.specs.Ladders.{all}
 use Rattle.price_levels.proofs.FoundLemmas.{Found, found, next-fits, next-rung, next-found, read-neighbour}
 use Rattle.price_levels.proofs.NamedLadders.{its-ladder}
@@ -13,42 +10,29 @@ it : (c : After-search_in-holds) → Found c.args.nodes.now.items c.args.ladders
     c.unwrap-order.result c.search_in-holds.result.0
 it c =
     let search = c.search_in-holds.ensures in
-    found _ _ _ _ _ _ _ c.requires.stands c.index-node.ensures c.unwrap-order.ensures refl
-    search.rung search.home (record { before = search.before; behind = search.behind })
+    found c.requires.levels c.requires.stands c.index-node.ensures c.unwrap-order.ensures refl search.rung search.home
+    (record { before = search.before; behind = search.behind })
 
 pub returns-in-Some : goal.returns-in-Some
 returns-in-Some c = read-neighbour c.args.nodes.now.items (all c.args.ladders.now) c.args.place c.index-node.result.now
     c.in-Some.next c.requires.levels c.requires.stands c.index-node.ensures c.in-Some.is
 
 pub overflow_add-next : goal.overflow_add-next
-overflow_add-next c = let fits = next-fits c.requires.levels (it (goal.at.overflow_add-next c).After-search_in-holds) in
-    omega (arith, fits)
+overflow_add-next c = omega (arith, next-fits (it (goal.at.overflow_add-next c).After-search_in-holds))
 
 pub first_in-requires : goal.first_in-requires
 first_in-requires c =
     let it = it (goal.at.first_in-requires c).After-search_in-holds in
-    record {
-      rung = next-rung c.requires.levels it;
-      home = record { belongs = it.home.belongs; alone = it.home.alone };
-    }
+    record { rung = next-rung it; home = record { belongs = it.home.belongs; alone = it.home.alone } }
 
 pub returns-in_err-number : goal.returns-in_err-number
-returns-in_err-number c =
-    let nodes = c.args.nodes.now.items in
-    subst (λ r. MatchOption r (NoneBehind (places_of nodes) c.args.place) (NextBehind (places_of nodes) c.args.place))
-    (sym c.from_residual.ensures)
-    (subst (λ r. MatchOption r (NoneBehind (places_of nodes) c.args.place)
-    (λ b. NextBehind (places_of nodes) c.args.place b.0)) c.in_err-number.was
-    (next-found c.requires.levels (it (goal.at.returns-in_err-number c).After-search_in-holds) c.in_default.is
-    c.first_in.result c.first_in.ensures))
+returns-in_err-number c = rw c.from_residual.ensures (rw c.in_err-number.was at
+    (next-found (it (goal.at.returns-in_err-number c).After-search_in-holds) c.in_default.is c.first_in.result
+    c.first_in.ensures))
 
 pub returns : goal.returns
-returns c =
-    let nodes = c.args.nodes.now.items in
-    subst (λ r. MatchOption r (NoneBehind (places_of nodes) c.args.place)
-    (λ b. NextBehind (places_of nodes) c.args.place b.0)) c.in_ok-number.was
-    (next-found c.requires.levels (it (goal.at.returns c).After-search_in-holds) c.in_default.is c.first_in.result
-    c.first_in.ensures)
+returns c = rw c.in_ok-number.was at
+    (next-found (it (goal.at.returns c).After-search_in-holds) c.in_default.is c.first_in.result c.first_in.ensures)
 
 pub search_in-holds-requires-clause-belongs : goal.search_in-holds-requires-clause-belongs
 search_in-holds-requires-clause-belongs c =

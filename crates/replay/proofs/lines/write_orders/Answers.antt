@@ -10,8 +10,7 @@ use Rattle.replay.proofs.LineLemmas.{appends_both, none_left}
 use Rattle.replay.proofs.lines.write_orders.Goals as goal
 
 pub loop-preserved : goal.loop-preserved
-loop-preserved g c =
-    let all = listing c.args.book.now.limits.symbols c.args.book.now.state.orders in
+loop-preserved g c = let all = listing c.args.book.now.limits.symbols c.args.book.now.state.orders in
     let next = next_at all c.loop.counter c.loop.from c.after.result c.loop.invariant.at c.after.ensures.first
     c.after.ensures.next in
     let is = sym c.in-Some.is ∙ next in
@@ -24,8 +23,7 @@ loop-preserved g c =
     }
 
 pub returns-in_default : goal.returns-in_default
-returns-in_default g c =
-    let all = listing c.args.book.now.limits.symbols c.args.book.now.state.orders in
+returns-in_default g c = let all = listing c.args.book.now.limits.symbols c.args.book.now.state.orders in
     let next = next_at all c.loop.counter c.loop.from c.after.result c.loop.invariant.at c.after.ensures.first
     c.after.ensures.next in
     subst (λ orders. Appends (g.W.Write.contents c.args.out.now) (g.W.Write.contents c.loop.out)
@@ -33,8 +31,7 @@ returns-in_default g c =
     (none_left all c.loop.counter (sym c.in_default.is ∙ next)) c.loop.invariant.written
 
 pub returns : goal.returns
-returns g c =
-    let all = listing c.args.book.now.limits.symbols c.args.book.now.state.orders in
+returns g c = let all = listing c.args.book.now.limits.symbols c.args.book.now.state.orders in
     let long = length_permutation c.args.book.now.state.orders all
     (c.loop.invariant.once (omega (arith, c.loop-test.false))) in
     subst (λ orders. Appends (g.W.Write.contents c.args.out.now) (g.W.Write.contents c.loop.out)

@@ -17,34 +17,19 @@ returns-then-found-at-clause-refused g c = let at : ℕ = c.load_claim-at.result
     let first = c.load_claim-at.ensures.step in
     let room = c.if-not-sees_room.ensures.room refl in let found : ℕ = c.exchange_claim-found.result in
     let most : at ≤ found = claim_below_then g.row.N _ _ _ at first room.1.0 room.1.2 c.exchange_claim-found.new.seat
-    found c.exchange_claim-found.ensures.claims in (
-      at,
-      room.0,
-      found,
-      (
-        room.1.0,
-        same_room g.row.N _ _ c.sees_room.new.seat at first room.0 room.1.0 room.1.1,
-        looked_then g.row.N _ _ _ at first room.1.0 room.1.2 _ found (search rules),
-        room.1.3,
-        search rules,
-        omega arith,
-      ),
-    )
+    found c.exchange_claim-found.ensures.claims in
+    let same = same_room g.row.N _ _ c.sees_room.new.seat at first room.0 room.1.0 room.1.1 in
+    let looked = looked_then g.row.N _ _ _ at first room.1.0 room.1.2 c.exchange_claim-found.new.seat found
+    (search rules) in (at, room.0, found, (room.1.0, same, looked, room.1.3, search rules, omega arith))
 
 pub returns-clause-claimed : goal.returns-clause-claimed
 returns-clause-claimed g c = let at : ℕ = c.load_claim-at.result in let first = c.load_claim-at.ensures.step in
     let room = c.if-not-sees_room.ensures.room refl in
-    let found : c.exchange_claim-found.result ≡ at = search rules in (
-      room.0,
-      (
-        room.1.0,
-        same_room g.row.N _ _ c.sees_room.new.seat at first room.0 room.1.0 room.1.1,
-        claimed_then g.row.N _ _ _ at first room.1.0 room.1.2 _ (search rules),
-        room.1.3,
-        search rules,
-        search rules,
-        subst (λ (x : ℕ). ClaimsUpTo c.args.seat.now.who x) found
-            (claims_before_then g.row.N _ _ _ at first room.1.0 room.1.2 c.exchange_claim-found.new.seat _
-            c.exchange_claim-found.ensures.claims),
-      ),
-    )
+    let found : c.exchange_claim-found.result ≡ at = search rules in
+    let same = same_room g.row.N _ _ c.sees_room.new.seat at first room.0 room.1.0 room.1.1 in
+    let claimed = claimed_then g.row.N _ _ _ at first room.1.0 room.1.2 c.exchange_claim-found.new.seat
+    (search rules) in
+    let claims = subst (λ (x : ℕ). ClaimsUpTo c.args.seat.now.who x) found
+    (claims_before_then g.row.N _ _ _ at first room.1.0 room.1.2 c.exchange_claim-found.new.seat _
+    c.exchange_claim-found.ensures.claims) in
+    (room.0, (room.1.0, same, claimed, room.1.3, search rules, search rules, claims))

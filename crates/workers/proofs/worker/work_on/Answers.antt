@@ -1,7 +1,5 @@
 -- Turn by turn.
 use Rattle.std.proofs.Common.{refl, arith}
-use Rattle.workers.specs.Resting.{moments}
-use Rattle.workers.specs.Working.{TurnAndRest}
 use Rattle.workers.proofs.Turns.{one_more, the_last}
 use Rattle.workers.proofs.worker.work_on.Goals as goal
 
@@ -9,35 +7,23 @@ pub loop-turns-init : goal.loop-turns-init
 loop-turns-init g c = record { goes = g.W.Worker.stays _; turns = refl }
 
 pub loop-turns-preserved : goal.loop-turns-preserved
-loop-turns-preserved g c =
-    let before = c.loop-turns.invariant in
-    let turned = c.turn_at-outcome.ensures in
-    let rested = c.goes_on.ensures in record {
+loop-turns-preserved g c = let before = c.loop-turns.invariant in
+    let turned = c.turn_at-outcome.ensures in let rested = c.goes_on.ensures in record {
       goes = g.W.Worker.further _ _ _ before.goes turned.goes;
-      turns = one_more (TurnAndRest g.W.Worker.took
-          (moments g.P.Pauses.paused g.P.Pauses.parked g.P.Pauses.snoozed g.P.Pauses.timed
-          g.P.Pauses.asked_until g.P.Pauses.turned_shy)) c.loop-turns.turns _ _ _
-          c.turn_at-outcome.result c.goes_on.result before.turns (record { takes = turned.took; rests = rested.rests })
-          rested.goes_on c.if-not-goes_on.false;
+      turns = one_more _ _ _ _ _ _ turned.took rested.rests rested.goes_on c.loop-turns.turns _ before.turns
+          c.if-not-goes_on.false;
     }
 
 pub returns-then-not-goes_on-clause-ends : goal.returns-then-not-goes_on-clause-ends
 returns-then-not-goes_on-clause-ends g c =
-    let turned = c.turn_at-outcome.ensures in
-    let rested = c.goes_on.ensures in (
+    let turned = c.turn_at-outcome.ensures in let rested = c.goes_on.ensures in (
       _,
       _,
       c.loop-turns.invariant.turns,
-      the_last (TurnAndRest g.W.Worker.took
-          (moments g.P.Pauses.paused g.P.Pauses.parked g.P.Pauses.snoozed g.P.Pauses.timed
-          g.P.Pauses.asked_until g.P.Pauses.turned_shy)) _ _
-          c.turn_at-outcome.result
-          c.goes_on.result (record { takes = turned.took; rests = rested.rests }) rested.goes_on c.if-not-goes_on.true,
+      the_last _ _ _ _ _ _ turned.took rested.rests rested.goes_on c.if-not-goes_on.true,
     )
 
 pub returns-clause-ends : goal.returns-clause-ends
-returns-clause-ends g c =
-    let loop = c.loop-turns in
-    let ended = c.loop-turns-test.false in
-    let within = loop.auto.turns-end in
+returns-clause-ends g c = let loop = c.loop-turns in
+    let ended = c.loop-turns-test.false in let within = loop.auto.turns-end in
     (loop.turns, omega (arith, ended, within), loop.invariant.turns)

@@ -1,5 +1,5 @@
 -- The order came in under its name.
-use Rattle.std.proofs.Common.{◌≡◌, ◌+◌, ap, ◌∙◌, arith}
+use Rattle.std.proofs.Common.{rules, ◌≡◌, ◌+◌, ap, ◌∙◌, arith}
 use Rattle.venue_model.specs.Requests.{greatest_of}
 use Rattle.book.specs.Books.{Book}
 use Rattle.book.proofs.BookLemmas.{book-entered}
@@ -18,16 +18,20 @@ invariant_of-self c =
     rw c.enter.ensures.orders (book-entered c.self.inside.logic.symbols c.self.inside.greatest i c.self.inside.orders
     c.self.invariant
     (record {
-      from = c.requires.from;
-      to = c.requires.to;
+      from = c.requires.name.from;
+      to = c.requires.name.to;
       name = omega (arith, greatest);
       symbol = rw symbols_are c.requires.known;
     })
     (rw orders_are c.accept.ensures.fresh) c.args.terms (rw (← c.enter.ensures.orders) c.enter.ensures.standing))
 
-pub returns-clause-below : goal.returns-clause-below
-returns-clause-below c =
+pub returns-clause-state : goal.returns-clause-state
+returns-clause-state c =
     let orders_are : c.self.inside.orders ≡ c.args.self.now.state.orders =
     ap (λ (b : Book). b.state.orders) (c.self.view_is ∙ c.accept.ensures.value) in
-    c.enter.ensures.below (c.args.order.now.stamp + 1) (omega arith)
-    (rw orders_are (below_more c.args.self.now.state.orders c.args.order.now.stamp c.requires.behind))
+    let stamp = c.args.order.now.stamp in
+    record {
+      book = search rules;
+      below = c.enter.ensures.below (stamp + 1) (omega arith)
+          (rw orders_are (below_more c.args.self.now.state.orders stamp c.requires.may_come_in.behind));
+    }

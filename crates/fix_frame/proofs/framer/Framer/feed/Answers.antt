@@ -6,8 +6,7 @@ use Rattle.fix_frame.proofs.FeedLemmas.{took_none, took_more, after, stopped, fi
 use Rattle.fix_frame.proofs.framer.Framer.feed.Goals as goal
 
 pub loop-taken-init : goal.loop-taken-init
-loop-taken-init c =
-    let right = sym c.fault.ensures.value ∙ c.in_default.is in
+loop-taken-init c = let right = sym c.fault.ensures.value ∙ c.in_default.is in
     record { within = omega arith; held = took_none _ _ right (c.fault.ensures.judged right) }
 
 pub returns-then-is_whole-clause-taken : goal.returns-then-is_whole-clause-taken
@@ -16,30 +15,25 @@ returns-then-is_whole-clause-taken c =
 
 pub take-requires : goal.take-requires
 take-requires c =
-    rw (take_rest c.args.piece.now c.loop-taken.taken) (record {
-      right = after _ _ _ _ c.loop-taken.invariant.held;
-      partial = c.if-is_whole.ensures;
-      some = omega (arith, length-drop c.loop-taken.taken c.args.piece.now);
-    })
+    let held = after _ _ _ _ c.loop-taken.invariant.held in let all = length-drop c.loop-taken.taken c.args.piece.now in
+    rw (take_rest c.args.piece.now c.loop-taken.taken)
+    (record { right = held; partial = c.if-is_whole.ensures; some = omega (arith, all) })
 
 pub loop-taken-preserved : goal.loop-taken-preserved
 loop-taken-preserved c =
     let takes = rw (take_rest c.args.piece.now c.loop-taken.taken) at c.in_ok-taken.ensures.ok in record {
       within = omega (arith, takes.within, length-drop c.loop-taken.taken c.args.piece.now);
-      held = took_more _ _ _ _ c.loop-taken.invariant.held c.in_ok-taken.field-0 c.take.new.self c.if-is_whole.ensures
-          takes;
+      held = took_more _ _ _ _ c.loop-taken.invariant.held _ c.take.new.self c.if-is_whole.ensures takes;
     }
 
 pub loop-taken-smaller : goal.loop-taken-smaller
 loop-taken-smaller c = let some = c.in_ok-taken.ensures.ok.some in omega (arith, some)
 
 pub returns-in_err-taken-clause-refused : goal.returns-in_err-taken-clause-refused
-returns-in_err-taken-clause-refused c =
+returns-in_err-taken-clause-refused c = let held = c.loop-taken.invariant.held in
     let p = err_from_is_err_and c.from_residual.result c.from_residual.ensures.1 in
     let wrong = rw (take_rest c.args.piece.now c.loop-taken.taken) at c.in_err-taken.ensures.wrong in
-    let spoils = spoilt _ _ _ _ c.loop-taken.invariant.held wrong.0 c.take.new.self _ c.in_err-taken.ensures.err wrong.2
-    in
-    rw (p.1, p.2) spoils
+    rw (p.1, p.2) (spoilt _ _ _ _ held wrong.0 c.take.new.self _ c.in_err-taken.ensures.err wrong.2)
 
 pub returns-clause-taken : goal.returns-clause-taken
 returns-clause-taken c =

@@ -1,8 +1,7 @@
 -- A session that is begun has had no course.
-use Rattle.std.proofs.Common.{[], true, false, subst, sym}
+use Rattle.std.proofs.Common.{true, false}
 use Rattle.gateway.specs.Gateways.{at_rings}
 use Rattle.gateway.specs.Seats.{ledger_of}
-use Rattle.gateway.specs.Standing.{Standing, At}
 use Rattle.gateway.proofs.DeliversLemmas.{begins}
 use Rattle.gateway.proofs.Opening.{at_beginning}
 use Rattle.gateway.proofs.gateway.Gateway.begin.Goals as goal
@@ -18,5 +17,5 @@ returns-clause-begins c n wire =
       live = true;
     }) in
     begins new.front wire (ledger_of n new.seat)
-    (subst (λ (s : Standing). At s [] [] [] []) (sym c.begin.ensures) (at_beginning c.self.inside.session.gateway))
+    (rw c.begin.ensures (at_beginning c.self.inside.session.gateway))
     c.new-self-inside.ensures

@@ -2,7 +2,7 @@
 use Rattle.std.proofs.Common.{◌++◌, take, ap, ◌∙◌, arith}
 use Rattle.fix_orders.specs.Formats.{time_text}
 use Rattle.gateway.specs.Standing.{message_text}
-use Rattle.gateway.proofs.HeaderLemmas.{at_time, spelled, message_is, message_length}
+use Rattle.gateway.proofs.HeaderLemmas.{spelled, message_is, message_length}
 use Rattle.gateway.proofs.OutgoingLemmas.{put_behind, few_behind}
 use Rattle.gateway.proofs.outgoing.Outgoing.put_message.Goals as goal
 
@@ -10,8 +10,7 @@ pub write_frame-len-requires-clause-body : goal.write_frame-len-requires-clause-
 write_frame-len-requires-clause-body c =
     spelled c.args.gateway c.args.number c.args.time c.args.msg_type.now c.args.body.now _ (omega arith) (omega arith)
     c.requires.kind c.requires.fields c.requires.most
-    (at_time c.args.gateway c.args.number c.args.time c.args.msg_type.now c.args.body.now _ c.set.new.self.text
-    (c.set.new.self.same ∙ ap time_text c.set.ensures) c.put_fields-end.ensures.puts)
+    (rw (c.set.new.self.same ∙ ap time_text c.set.ensures) at c.put_fields-end.ensures.puts)
 
 pub returns-clause-text : goal.returns-clause-text
 returns-clause-text c = λ said spells.
@@ -20,8 +19,7 @@ returns-clause-text c = λ said spells.
     ∙ ap (λ l. take c.self.inside.len c.self.inside.bytes ++ l)
     (c.write_frame-len.ensures.written
     ∙ message_is c.args.gateway c.args.number c.args.time c.args.msg_type.now c.args.body.now _ said spells
-    (at_time c.args.gateway c.args.number c.args.time c.args.msg_type.now c.args.body.now _ c.set.new.self.text
-    (c.set.new.self.same ∙ ap time_text c.set.ensures) c.put_fields-end.ensures.puts))
+    (rw (c.set.new.self.same ∙ ap time_text c.set.ensures) at c.put_fields-end.ensures.puts))
     ∙ ap (λ l. l ++ message_text c.args.gateway c.args.number said) c.self.view_is
 
 pub returns-clause-few : goal.returns-clause-few

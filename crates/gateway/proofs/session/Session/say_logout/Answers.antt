@@ -1,7 +1,6 @@
 -- The Logout's body is its text.
-use Rattle.std.proofs.Common.{◌∷◌, [], ap, refl, sym, ◌∙◌, subst}
-use Rattle.std.specs.List.{AllByRecursion}
-use Rattle.fix_frame.specs.Grammar.{IsField, print_fields}
+use Rattle.std.proofs.Common.{◌∷◌, [], ap, refl, sym, ◌∙◌}
+use Rattle.fix_frame.specs.Grammar.{print_fields}
 use Rattle.fix_orders.specs.Formats.{time_text}
 use Rattle.fix_orders.specs.Text.{field}
 use Rattle.gateway.specs.Answers.{Logout}
@@ -23,5 +22,5 @@ returns-clause-new c =
       kind = refl;
       time_is = refl;
       body_is = ap print_fields fields ∙ sym c.put_field-end.ensures.puts.written;
-      fields = subst (AllByRecursion IsField) (sym fields) (text_field c.args.text.now c.requires.text, tt);
+      fields = rw fields (text_field c.args.text.now c.requires.text, tt);
     })

@@ -11,29 +11,21 @@ use Rattle.price_levels.proofs.ladders.Ladders.search_in.Goals as goal
 pub index-requires : goal.index-requires
 index-requires c =
     let within = there (key-ladder (key_with c.args.symbol.now c.args.side c.args.price) c.args.ladder
-    c.self.invariant c.self.view_is
-    c.requires.belongs) in
+    c.self.invariant c.self.view_is c.requires.belongs) in
     omega (arith, within, c.self.inside.ladders.ok.0)
 
 pub place_in-at-requires : goal.place_in-at-requires
 place_in-at-requires c = its-order (key-ladder (key_with c.args.symbol.now c.args.side c.args.price) c.args.ladder
-    c.self.invariant c.self.view_is
-    c.requires.belongs) c.index.ensures c.levels.ensures c.requires.order
+    c.self.invariant c.self.view_is c.requires.belongs) c.index.ensures c.levels.ensures c.requires.order
 
 pub returns : goal.returns
-returns c =
-    let k = key_with c.args.symbol.now c.args.side c.args.price in
-    let its = key-ladder k c.args.ladder c.self.invariant c.self.view_is
-    c.requires.belongs in
-    let here = c.index.ensures in
-    let read = c.levels.ensures in
-    let found = c.place_in-at.ensures in
-    let at = c.place_in-at.result.0 in
-    let rung = is-rung its here read at found.within in
+returns c = let k = key_with c.args.symbol.now c.args.side c.args.price in
+    let its = key-ladder k c.args.ladder c.self.invariant c.self.view_is c.requires.belongs in
+    let here = c.index.ensures in let read = c.levels.ensures in let found = c.place_in-at.ensures in
+    let at = c.place_in-at.result.0 in let rung = is-rung its here read at found.within in
     let home = is-home its here read at found.within in
     let it = one-ladder c.self.inside.ladders.items (record { ladder = c.args.ladder; at = at }) c.self.view_is
-    rung.ladder
-    here in
+    rung.ladder here in
     record {
       rung = rung;
       home = home;

@@ -10,8 +10,8 @@ invariant_of-self c =
     let free = c.push.ensures.capacity.0 in
     let levels = c.push.ensures.capacity.1 in
     let before = c.self.invariant in (
-      c.push.ensures.levels,
+      c.push.ensures.ladders.levels,
       omega (arith, long, free, before.1),
       omega (arith, long, levels, before.2),
-      c.push.ensures.named,
+      c.push.ensures.ladders.named,
     )

@@ -10,8 +10,8 @@ invariant_of-self c =
     let free = c.take_out.ensures.capacity.0 in
     let levels = c.take_out.ensures.capacity.1 in
     let before = c.self.invariant in (
-      c.take_out.ensures.levels,
+      c.take_out.ensures.ladders.levels,
       omega (arith, long, free, before.1),
       omega (arith, long, levels, before.2),
-      c.take_out.ensures.named,
+      c.take_out.ensures.ladders.named,
     )

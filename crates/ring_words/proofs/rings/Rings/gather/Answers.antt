@@ -13,11 +13,8 @@ loop-gateway-init g c = let stages = c.args.stages in
 
 pub join_seat-requires : goal.join_seat-requires
 join_seat-requires g c = let key = c.self.inside.table.shared.key in
-    let inv = c.loop-gateway.invariant in
-    let x = c.in-Some.gateway in
-    let left = c.pop.new.self.items in
-    let all = c.loop-gateway.all in
-    let gs = c.args.gateways.items in let firsts = c.args.stages.me.0.people in
+    let inv = c.loop-gateway.invariant in let x = c.in-Some.gateway in let left = c.pop.new.self.items in
+    let all = c.loop-gateway.all in let gs = c.args.gateways.items in let firsts = c.args.stages.me.0.people in
     let was : Gathering gs firsts (left ++ x ∷ []) all.me.0 =
     subst (λ (l : List (At g.row.L.Denot)). Gathering gs firsts l all.me.0) c.in-Some.ensures.items inv.2 in
     let at = c.requires.gateways (length left) x (was.others (length left) x (at_last left x (length left) refl)) in
@@ -33,16 +30,11 @@ join_seat-requires g c = let key = c.self.inside.table.shared.key in
 
 pub loop-gateway-preserved : goal.loop-gateway-preserved
 loop-gateway-preserved g c = let inv = c.loop-gateway.invariant in
-    let x = c.in-Some.gateway in
-    let left = c.pop.new.self.items in
-    let all = c.loop-gateway.all in
+    let x = c.in-Some.gateway in let left = c.pop.new.self.items in let all = c.loop-gateway.all in
     let gs = c.args.gateways.items in let firsts = c.args.stages.me.0.people in
     let was : Gathering gs firsts (left ++ x ∷ []) all.me.0 =
     subst (λ (l : List (At g.row.L.Denot)). Gathering gs firsts l all.me.0) c.in-Some.ensures.items inv.2 in
-    let one : c.gateway.inside.seat.me.0.people ≡ x.who ∷ [] = c.gateway.inside.alone
-    ∙ ap (λ (s : At g.row.L.Denot). s.who ∷ []) c.gateway.view_is in (
-      search rules,
-      search rules,
-      rw c.join_seat.ensures.2
-          (gathers_one gs firsts left x all.me.0 c.gateway.inside.seat.me.0 one was),
-    )
+    let me = c.gateway.inside.seat.me.0 in
+    let one : me.people ≡ x.who ∷ [] = c.gateway.inside.alone
+    ∙ ap (λ (s : At g.row.L.Denot). s.who ∷ []) c.gateway.view_is in
+    (search rules, search rules, rw c.join_seat.ensures.2 (gathers_one gs firsts left x all.me.0 me one was))

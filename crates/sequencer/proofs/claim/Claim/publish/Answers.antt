@@ -8,29 +8,15 @@ use Rattle.sequencer.proofs.claim.Claim.publish.Goals as goal
 
 pub store_availability-requires : goal.store_availability-requires
 store_availability-requires g c = let before = c.args.seat.now in
-    let written = c.store_words.ensures in
-    let s = c.self.inside.sequence in
+    let written = c.store_words.ensures in let s = c.self.inside.sequence in
     let e : Message = record { gateway = number before; bytes = c.args.bytes.now } in
     let entry : IsEntry e = is_entry (number before) c.args.bytes.now written.number c.requires.bytes
     (λ i. let small = c.type_inv.bytes i in omega arith) in
     let spells = row_spells before c.store_words.new.seat before s e written.step in
     let claimed : 0 < times_in s before.who.claims = subst (λ (n : ℕ). 0 < times_in n before.who.claims)
-    (sym c.self.view_is) c.requires.claimed in (
-      omega arith,
-      (
-        search rules,
-        (
-          rw written.step claimed,
-          (
-            search rules,
-            (
-              rw written.step refl,
-              (e, spells, entry, sym (ap (λ (a : At g.row.L.Denot). number a) written.step)),
-            ),
-          ),
-        ),
-      ),
-    )
+    (sym c.self.view_is) c.requires.claimed in
+    let step = written.step in let same = sym (ap (λ (a : At g.row.L.Denot). number a) step) in
+    (omega arith, (search rules, (rw step claimed, (search rules, (rw step refl, (e, spells, entry, same))))))
 
 pub returns-clause-step : goal.returns-clause-step
 returns-clause-step g c = let before = c.args.seat.now in
