@@ -2,6 +2,7 @@
 # folder.
 
 SETUP="${PWD##*/}/setup"  # In front of each line.
+WAITS=600                 # Seconds for somebody else who installs packages just now.
 
 fail() {
     echo "$SETUP: $*" >&2
@@ -30,7 +31,8 @@ need() {
     done
     [[ "${#missing[@]}" -eq 0 ]] && return
     echo "$SETUP: installs ${missing[*]}"
-    local words=(env DEBIAN_FRONTEND=noninteractive apt-get install -y --no-install-recommends "${missing[@]}")
+    local words=(env DEBIAN_FRONTEND=noninteractive apt-get -o "DPkg::Lock::Timeout=$WAITS" install -y)
+    words+=(--no-install-recommends "${missing[@]}")
     as_root "${words[@]}" >/dev/null 2>&1 || { as_root apt-get update && as_root "${words[@]}"; } >/dev/null 2>&1 ||
         fail "can't be had: ${missing[*]}"
 }

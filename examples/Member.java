@@ -7,7 +7,7 @@
 // midnight, UTC, as those of the edge's example: they stand in the file SENDER.numbers of the present folder. What it
 // missed while it was away is sent again. Of its own messages none is: an order that was lost on its way was never sent,
 // as far as the venue knows. The status is 1 where it isn't let in. Who has QuickFIX/J needs none of this:
-// examples/quickfixj.cfg are settings for its own engine.
+// examples/quickfix.cfg are settings for its own engine.
 
 import java.io.IOException;
 import java.net.Socket;

@@ -1,4 +1,4 @@
-/* Prints the messages of a stream of a feed, by their numbers (docs/FEED.md):
+/* Prints the messages of a stream of a feed, by their numbers (FEED.md):
  *
  *     cc -o feed_reader feed_reader.c -lnats
  *     ./feed_reader HOST:PORT USER PASSWORDS CA.PEM venue_NAME_events 1 [once]

@@ -1,4 +1,4 @@
-// Prints the messages of a stream of a feed, by their numbers (docs/FEED.md):
+// Prints the messages of a stream of a feed, by their numbers (FEED.md):
 //
 //	go mod init feed_reader && go get github.com/nats-io/nats.go@v1.31.0
 //	go run feed_reader.go HOST:PORT USER PASSWORDS CA.PEM venue_NAME_events 1 [once]

@@ -1,5 +1,5 @@
 #!/usr/bin/env python3
-"""Prints the messages of a stream of a feed, by their numbers (docs/FEED.md), with Python's own library alone.
+"""Prints the messages of a stream of a feed, by their numbers (FEED.md), with Python's own library alone.
 
     feed_reader.py HOST:PORT USER PASSWORDS CA.PEM venue_NAME_events 1 [once]
 

@@ -36,12 +36,17 @@ class Member : public FIX::Application {
 public:
     void onCreate(const FIX::SessionID &) override {}
     void onLogon(const FIX::SessionID &session) override {
+        isIn_ = true;
         say("logged on");
         order(session);
         market(session);
         ask(session);
     }
-    void onLogout(const FIX::SessionID &) override { say("logged out"); }
+    /// A wrong password has no answer, and behind it the edge lets some time pass.
+    void onLogout(const FIX::SessionID &) override {
+        say(isIn_ ? "logged out" : "logged out: the Logon wasn't taken. Is it the right password, name and hour?");
+        isIn_ = false;
+    }
     void toAdmin(FIX::Message &message, const FIX::SessionID &) override {
         const char *const name = std::getenv("FIX_USERNAME"), *const password = std::getenv("FIX_PASSWORD");
         if (!name || message.getHeader().getField(FIX::FIELD::MsgType) != "A") return;
@@ -59,7 +64,8 @@ public:
     void fromAdmin(const FIX::Message &message,
                    const FIX::SessionID &) throw(FIX::FieldNotFound, FIX::IncorrectDataFormat, FIX::IncorrectTagValue,
                                                  FIX::RejectLogon) override {
-        if (message.getHeader().getField(FIX::FIELD::MsgType) == "3") say(message.toString());
+        const std::string type = message.getHeader().getField(FIX::FIELD::MsgType);
+        if (type == "3" || type == "5") say(message.toString());  // (of a Logout the Text says why)
     }
 
     void fromApp(const FIX::Message &message,
@@ -114,6 +120,7 @@ private:
     }
 
     std::mutex mutex_;
+    bool isIn_ = false;
 };
 
 FIX::SessionSettings settingsOf(const std::string &port, const std::string &dictionary, const std::string &sender,

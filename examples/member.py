@@ -4,13 +4,15 @@
     examples/member.py PORT [SENDER [TARGET]]
 
 Where the edge asks for a password FIX_USERNAME and FIX_PASSWORD of the environment are written into the Logon. It ends with
-its standard input, and logs out then. Its numbers go on from one session to the next, and begin with 1 at midnight, UTC, as
+its standard input, or by Ctrl-C, and logs out then. Its order rests until somebody sells. Where the market isn't open to
+the member (`MarketData` of the edge), a 35=Y says so. Its numbers go on from one session to the next, and begin with 1 at midnight, UTC, as
 those of the edge's example: they stand in the file SENDER.numbers of the present folder. What it missed while it was away is
 sent again. Of its own messages none is: an order that was lost on its way was never sent, as far as the venue knows. The status
 is 1 where it isn't let in.
 """
 import os
 import select
+import signal
 import socket
 import sys
 import time
@@ -57,6 +59,7 @@ class Member:
         self.numbers = Numbers(f"{sender}.numbers")
         self.socket = socket.create_connection(("127.0.0.1", port))
         self.rest, self.sent_at, self.has_asked, self.is_on, self.is_over = b"", time.monotonic(), False, False, False
+        self.is_interrupted = False
 
     def write(self, kind: str, body: str, number: int, head: str = "") -> None:
         self.socket.sendall(framed(f"35={kind}|34={number}|49={self.sender}|52={now()}|56={self.target}|{head}{body}"))
@@ -99,7 +102,8 @@ class Member:
         elif number > self.numbers.into:
             self.missed(it)
         elif it.get("43") != "Y":
-            sys.exit(f"number {number} where {self.numbers.into} is next: {text}")
+            sys.exit(f"number {number} where {self.numbers.into} is next, as {self.numbers.path} says: remove that file where the edge is "
+                     f"another one than before: {text}")
         elif not self.is_on:
             print(text, flush=True)  # A word that isn't counted: it isn't let in.
 
@@ -141,15 +145,22 @@ class Member:
         if self.is_on and time.monotonic() - self.sent_at > HEARTBEAT / 2:
             self.send("0")
 
+    def interrupt(self, *_: object) -> None:
+        """Who isn't logged on yet can't log out, and so ends at once."""
+        if not self.is_on:
+            sys.exit("interrupted before it was let in")
+        self.is_interrupted = True
+
     def run(self) -> None:
+        signal.signal(signal.SIGINT, self.interrupt)
         self.log_on()
         is_leaving = False
         while not self.is_over:
-            listens = self.is_on and not is_leaving  # Who isn't logged on yet can't log out.
+            listens = self.is_on and not is_leaving
             ready = select.select([self.socket, *[sys.stdin] * listens], [], [], 1)[0]
             if self.socket in ready:
                 self.read()
-            if sys.stdin in ready and not sys.stdin.readline():
+            if listens and (self.is_interrupted or sys.stdin in ready and not sys.stdin.readline()):
                 is_leaving = True
                 self.send("5")
             self.beat()
@@ -158,7 +169,10 @@ class Member:
 
 
 def main() -> None:
-    if not 2 <= len(sys.argv) <= 4:
+    if {"-h", "--help"} & set(sys.argv):
+        print(__doc__)
+        return
+    if not 2 <= len(sys.argv) <= 4 or not sys.argv[1].isdecimal():
         sys.exit(__doc__)
     port, sender, target = (sys.argv[1:] + ["DESK-A", "GIKVAND"][len(sys.argv) - 2:])[:3]
     Member(int(port), sender, target).run()

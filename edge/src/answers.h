@@ -10,13 +10,13 @@
 #include <functional>
 #include <string>
 
-#include "books.h"
 #include "market_data.h"
 #include "order_status.h"
 #include "own_trades.h"
 #include "securities.h"
 #include "settings.h"
-#include "trader.h"
+#include "shelf.h"
+#include "traders.h"
 
 namespace edge {
 
@@ -26,10 +26,10 @@ class Answers {
 public:
     using HasRoom = std::function<bool()>;
 
-    Answers(const Settings &settings, Record &record, Names &names, const Trader &trader, const Books &books)
+    Answers(const Settings &settings, Record &record, const Traders &traders, const Shelf &books)
         : market_(settings.member, settings.ticks, books),
-          securities_(settings, trader, market_),
-          orders_(settings.member, settings.ticks, names, trader),
+          securities_(settings, traders, market_),
+          orders_(settings.member, settings.ticks, traders),
           trades_(settings.member, settings.ticks, record) {}
 
     void attach(FIX::Session &session);

@@ -71,6 +71,10 @@ public:
     /// Whether something of that has come, or there was nothing to come.
     bool hasCome() const { return !isOld_ || isOpen_; }
 
+    /// Whether the books are those of the market now, as who reads into them says: they are followed, and not late.
+    void isThere(bool is) { isThere_ = is; }
+    bool isThere() const { return isThere_; }
+
     /// So many of all outputs are of commands that the books have.
     long outputs() const { return outputs_; }
 
@@ -102,7 +106,7 @@ private:
     std::map<std::string, Book> books_;
     std::vector<Change> changes_;                       // Of the command whose lines come,
     std::vector<std::pair<Book *, LastTrade>> trades_;  // and its trades.
-    bool isOpen_ = false, isOld_ = false;
+    bool isOpen_ = false, isOld_ = false, isThere_ = false;
     long commands_ = 0;            // That have been told, the last one perhaps in part.
     long outputs_ = 0, come_ = 0;  // Without those of that one, and with them.
 };

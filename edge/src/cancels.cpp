@@ -32,6 +32,7 @@ Sweep sweepOf(const KeptSweep &row) {
     if (side != *ALL && side != DAY) it.side = side;
     (side == DAY ? it.end : it.name) = row.text.substr(std::min(row.text.size(), static_cast<std::size_t>(end) + 1));
     it.row = row.number;
+    it.known = it.upTo;
     it.desk = it.name.empty() && row.desk == FIRST_DESK ? 0 : row.desk;
     return it;
 }
@@ -61,7 +62,7 @@ std::size_t Cancels::send(const Orders &orders, const Sweep &it) {
     for (const auto &order : orders) {
         if (names_.last() >= Names::GREATEST) break;
         if (!orders_.insert(order.first).second) continue;
-        const std::string name = it.name.empty() ? own + std::to_string(names_.last() + 1) : it.name;
+        const std::string name = it.name.empty() ? own + names_.ownWord(names_.last() + 1) : it.name;
         const long number = names_.add(name, kind, it.desk ? it.desk : order.second.desk);
         link_.send("F", cancelFor(order.second, number, order.first, time), time);
         underWay_[number] = order.first;
@@ -78,19 +79,48 @@ bool Cancels::areUnderWay(const Orders &orders) const {
 
 std::size_t Cancels::begin(Sweep &it, const Orders &orders) {
     const bool isNew = !it.upTo;
-    if (isNew) it.upTo = names_.last() + 1;
+    if (isNew) it.known = it.upTo = names_.last() + 1;
     Orders taken;
     for (const auto &order : orders)
         if (it.takes(order.first, order.second)) taken.insert(order);
     it.count = taken.size();
     const bool mayCome = probe_ && (it.isOfDay() || sweeps_.size() < MOST_OWED);
     if (areUnderWay(taken) && !mayCome && (taken.empty() || (isNew && !it.name.empty()))) return 0;
-    it.row = names_.add(textOf(it), Names::Kind::Sweep, it.desk ? it.desk : FIRST_DESK);
+    keep(it);
     const bool isLater = probe_ && it.isOfDay();  // Cancels by a day's end before may be at the venue.
     const std::size_t count = isLater ? 0 : send(taken, it);
     it.last = probe_ ? 0 : underWay_.empty() ? it.row : underWay_.rbegin()->first;  // Some may be of another sweep.
     sweeps_.push_back(it);
     return count;
+}
+
+Sweep Cancels::owe(Sweep it) {
+    it.known = it.upTo = names_.isBeside() ? Names::GREATEST + 1 : names_.last() + 1;
+    it.last = 0;
+    it.isLast = true;
+    const auto covers = [&it](const Sweep &other) {
+        return other.isLast && (!other.desk || other.desk == it.desk) &&
+               (other.symbol.empty() || other.symbol == it.symbol) && (!other.side || other.side == it.side);
+    };
+    const auto known = std::find_if(sweeps_.begin(), sweeps_.end(), covers);
+    if (known != sweeps_.end()) return *known;
+    keep(it);
+    sweeps_.insert(sweeps_.begin(), it);
+    return it;
+}
+
+void Cancels::venueBack() {
+    for (Sweep &it : sweeps_) {
+        it.isLast = false;
+        if (it.upTo <= Names::GREATEST) continue;
+        names_.forget(it.row);
+        it.upTo = names_.last() + 1;
+        keep(it);
+    }
+}
+
+void Cancels::keep(Sweep &it) {
+    it.row = names_.keep(textOf(it), Names::Kind::Sweep, it.desk ? it.desk : FIRST_DESK);
 }
 
 void Cancels::answered(long settled) {
@@ -120,8 +150,9 @@ bool Cancels::isEndOwed() const {
     return std::any_of(sweeps_.begin(), sweeps_.end(), [](const Sweep &it) { return it.isOfDay() && !it.last; });
 }
 
-bool Cancels::isOver(long upTo) const {
-    return std::none_of(sweeps_.begin(), sweeps_.end(), [upTo](const Sweep &it) { return it.upTo == upTo; });
+bool Cancels::isOver(long known) const {
+    if (known > Names::GREATEST) return sweeps_.empty();  // By that several may be known, or by another number since.
+    return std::none_of(sweeps_.begin(), sweeps_.end(), [known](const Sweep &it) { return it.known == known; });
 }
 
 void Cancels::tidy() {

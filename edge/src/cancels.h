@@ -24,10 +24,12 @@ struct Sweep {
     char side = '\0';       // None: of both.
     std::string name;       // That of its cancels; empty: each has one of the edge's own.
     std::string end;        // Of a day: its orders went to the venue before that. Empty: it is of no day's end.
-    long upTo = 0;          // Its orders have lower numbers; it is known by that.
+    long upTo = 0;          // Its orders have lower numbers.
+    long known = 0;         // It is known by that: by the first one of these, where the venue's journal has told another.
     long row = 0;           // The number of its row in the record.
     long last = 0;          // That of its last cancel; 0: it is owed, since nobody knows what became of these.
     std::size_t count = 0;  // So many orders it took.
+    bool isLast = false;    // Made while the venue is away: it has none of an order that came later.
 
     bool isOfDay() const { return !end.empty(); }
 
@@ -67,6 +69,13 @@ public:
     /// before that is known, so that each order has one cancel. There are numbers for all that.
     std::size_t begin(Sweep &it, const Orders &orders);
 
+    /// Keeps a sweep of the orders of now, whose cancels go once the venue is there: it, or one that has all of these. As
+    /// long as the venue's journal hasn't been read these are all that it will tell of.
+    Sweep owe(Sweep it);
+
+    /// The venue is there, and its journal has been read: what was owed until then is of the orders up to this moment.
+    void venueBack();
+
     /// The venue has answered all requests up to this number.
     void answered(long settled);
 
@@ -85,13 +94,14 @@ public:
     bool isSweeping() const { return !sweeps_.empty(); }
 
     /// Whether no sweep that is known by this number is under way.
-    bool isOver(long upTo) const;
+    bool isOver(long known) const;
 
     /// Drops from the record what is over.
     void tidy();
 
 private:
     bool areUnderWay(const Orders &orders) const;
+    void keep(Sweep &it);
 
     Names &names_;
     VenueLink &link_;

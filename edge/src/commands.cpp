@@ -32,12 +32,15 @@ bool readNumbers(const std::string &words, Command &into) {
     return out == std::to_string(into.out) && in == std::to_string(into.in);  // A number has one spelling.
 }
 
-/// Reads the number from which on names are asked for. Whether it is there.
+/// Reads the number from which on names are asked for, and the letter of a venue behind a blank, where there is one.
+/// Whether they are there.
 bool readFrom(const std::string &words, Command &into) {
-    if (!isNumber(words) || words.size() > MOST_DIGITS) return false;
+    const std::string number = words.substr(0, words.find(' '));
+    if (!isNumber(number) || number.size() > MOST_DIGITS) return false;
     into.kind = Command::Kind::Names;
-    into.from = std::stol(words);
-    return words == std::to_string(into.from);
+    into.from = std::stol(number);
+    into.venue = words.substr(std::min(number.size() + 1, words.size()));
+    return number == std::to_string(into.from) && (number.size() == words.size() || isVenue(into.venue));
 }
 
 }
@@ -47,7 +50,8 @@ bool isNumber(const std::string &word) {
 }
 
 std::string Command::words() const {
-    if (kind == Kind::Names) return std::string(NAMES) + " " + std::to_string(from);
+    if (kind == Kind::Names)
+        return std::string(NAMES) + " " + std::to_string(from) + (venue.empty() ? "" : " " + venue);
     if (kind == Kind::SetNumbers) return std::string(NUMBERS) + " " + std::to_string(out) + " " + std::to_string(in);
     for (const auto &it : symbol.empty() ? OF_MEMBERS : OF_SYMBOLS)
         if (it.second == kind) return symbol.empty() ? it.first : it.first + " " + symbol;

@@ -19,9 +19,10 @@ struct Command {
     std::string symbol;    // Of Halt and ResumeSymbol.
     long out = 0, in = 0;  // Of SetNumbers: the next number of the edge, and the next of the member's engine.
     int desk = 0;          // Which one of the member's desks is meant; 0: none was named.
-    long from = 0;         // Of Names, which a process that copies reports asks for: the first number.
+    long from = 0;         // Of Names, which a process that copies reports asks for: the first number,
+    std::string venue;     // and the letter of its venue; empty: the member has one.
 
-    /// In the words that go over the control socket, as `halt ABC`, `numbers 2000 17` or `names 5`.
+    /// In the words that go over the control socket, as `halt ABC`, `numbers 2000 17`, `names 5` or `names 5 B`.
     std::string words() const;
 
     /// Reads such words. Whether they are a command.

@@ -14,6 +14,7 @@
 #include "lines.h"
 #include "process.h"
 #include "settings.h"
+#include "surroundings.h"
 
 namespace edge {
 
@@ -30,8 +31,10 @@ public:
         socket_ = controlConnection(of.folder, of.member, Callers::Operators);
         isHere_ = !socket_ && (errno == ENOENT || errno == ECONNREFUSED) && command.isOfNumbers() && isAlone;
         if (!socket_) {
-            fault_ = std::string(errno == EAGAIN ? "its process is busy" : "its process doesn't run") + ": " +
-                     controlPath(of.folder, of.member, Callers::Operators) + ": " + reason();
+            const char *const what = errno == EAGAIN   ? "its process is busy"
+                                     : errno == EACCES ? "this user may not ask its process"
+                                                       : "its process doesn't run";
+            fault_ = std::string(what) + ": " + controlPath(of.folder, of.member, Callers::Operators) + ": " + reason();
             return;
         }
         const std::string line = name() + " " + command.words() + "\n";
@@ -102,8 +105,10 @@ bool isAsked(const Command &command, const MemberFolder &it) {
 std::vector<MemberFolder> foldersOf(const Call &call) {
     std::vector<MemberFolder> folders;
     for (const std::string &path : call.paths)
-        for (const MemberFolder &it : readFolders(path))
-            if (call.member == it.member || (call.member.empty() && isAsked(call.command, it))) folders.push_back(it);
+        for (const std::string &file : settingsAt(path))
+            for (const MemberFolder &it : readFolders(file))
+                if (call.member == it.member || (call.member.empty() && isAsked(call.command, it)))
+                    folders.push_back(it);
     return folders;
 }
 

@@ -14,7 +14,7 @@ namespace edge {
 struct Call {
     Command command;
     std::string member;              // Empty: all of them.
-    std::vector<std::string> paths;  // Of settings.
+    std::vector<std::string> paths;  // Of settings, or of folders of such files.
 };
 
 /// Whether a command line that begins so asks something of members.

@@ -102,7 +102,8 @@ void Control::turn() {
     std::size_t at = 2;
     for (auto it = callers_.begin(); it != callers_.end(); at++) {
         const bool isSilent = !it->isAsking && Clock::now() - it->since >= PATIENCE;
-        const bool isOver = (all[at].revents && (it->isAsking || hear(*it))) || isSilent;
+        const bool hasCome = all[at].revents || isSilent;  // This process may have stood still, and has to look first.
+        const bool isOver = (hasCome && (it->isAsking || hear(*it))) || (isSilent && !it->isAsking);
         it = isOver ? callers_.erase(it) : std::next(it);
     }
     answer();

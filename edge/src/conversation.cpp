@@ -15,8 +15,6 @@ namespace edge {
 
 namespace {
 
-constexpr std::size_t MOST_TO_VENUE = 1 << 20;  // Behind this no more is read of the client.
-
 /// The number of at most nine digits that stands behind this text, which begins at this place, or 0.
 long numberBehind(const std::string &front, const std::string &text, std::size_t &place) {
     if (text.compare(place, front.size(), front)) return 0;
@@ -34,14 +32,17 @@ long expectedBy(const std::string &text, long ours) {
     return ours && ours <= came && came < expected ? expected : 0;
 }
 
+std::string tooLow(long expected, long number) {
+    return "MsgSeqNum too low, expecting " + std::to_string(expected) + " but received " + std::to_string(number);
 }
 
-Conversation::Conversation(const MemberSettings &member, const Logons &logons, const VenueLink &link, Trader &trader,
-                           Day &day, Answers &answers)
+}
+
+Conversation::Conversation(const MemberSettings &member, const Logons &logons, Traders &traders, Day &day,
+                           Answers &answers)
     : member_(member),
       logons_(logons),
-      link_(link),
-      trader_(trader),
+      traders_(traders),
       day_(day),
       answers_(answers),
       intake_(member.limits.readMessages, member.limits.readBytes) {}
@@ -56,7 +57,7 @@ std::string Conversation::begin(Descriptor socket, const std::string &bytes, con
     client_.reset(new Connection(std::move(socket), bytes, member_.limits.messageBytes, member_.limits.unsentBytes,
                                  [this](const std::string &message) { return writing(message); }));
     session_->setResponder(client_.get());
-    trader_.sendsTo(member_.desk, client_.get());
+    traders_.sendsTo(member_.desk, client_.get());
     gaps_.clear();
     garbled_.clear();
     answer_ = wanted_ = 0;
@@ -65,7 +66,7 @@ std::string Conversation::begin(Descriptor socket, const std::string &bytes, con
 }
 
 void Conversation::end() {
-    trader_.sendsTo(member_.desk, nullptr);
+    traders_.sendsTo(member_.desk, nullptr);
     client_.reset();
     resends_.clear();
     answers_.end();
@@ -124,7 +125,7 @@ std::string Conversation::read() {
 
 /// Whether the client is read: while it takes what that brings, the venue answers, and it sends no more than it may.
 bool Conversation::mayRead() {
-    return client_->takesMore() && link_.unsent() < MOST_TO_VENUE && !trader_.isBusy(member_.desk) && intake_.hasRoom();
+    return client_->takesMore() && traders_.takesMore() && !traders_.isBusy(member_.desk) && intake_.hasRoom();
 }
 
 /// Whoever isn't logged on behind a message, its Logon or its Logout, goes.
@@ -148,13 +149,13 @@ std::string Conversation::passMessages() {
 
 /// Passes a message on, and notes what that cost. Some questions are answered a moment later, and some by many answers.
 void Conversation::passMessage(const std::string &message) {
-    const long passed = link_.sent();
+    const long passed = traders_.sent();
     const int told = session_->getExpectedSenderNum();
     const std::size_t open = answers_.open();
     judge(message);
-    auto cost = link_.sent() != passed ? Intake::Cost::PassedOn : Intake::Cost::Looked;
+    auto cost = traders_.sent() != passed ? Intake::Cost::PassedOn : Intake::Cost::Looked;
     const bool isAnswered = session_->getExpectedSenderNum() != told || answers_.open() > open;
-    if (isAnswered || !trader_.hasRoom()) cost = Intake::Cost::Answered;
+    if (isAnswered || !traders_.hasRoom()) cost = Intake::Cost::Answered;
     intake_.took(message.size(), cost);
     intake_.sentAgain(std::max(0, session_->getExpectedSenderNum() - told - 1));
 }
@@ -221,8 +222,14 @@ void Conversation::give(const std::string &message, const Judged &judged) {
     }
     client_->resends(false);
     store_->letReset(false);
+    if (isLogon && !session_->isLoggedOn())
+        sayRefused(last_ < expected ? tooLow(expected, last_) : "the events of its session say why");
     day_.answered(judged, next);
     gaps_.given(judged, expected, session_->getExpectedTargetNum());
+}
+
+void Conversation::sayRefused(const std::string &why) {
+    say(member_.deskName(), "a Logon from " + clientsAddress_ + " is refused: " + why);
 }
 
 /// Whether a Logon isn't shown to the session. Its engine is told why by a message that it doesn't count. A Logout of
@@ -231,7 +238,7 @@ bool Conversation::isRefused(const std::string &message, const Judged &logon) {
     std::string why = day_.isOpen() ? logons_.refusalOf(logon) : "the session's hours are " + day_.hours().words();
     if (why.empty() && day_.owes()) why = "what it wasn't sent is being told again: try again";
     if (why.empty()) return false;
-    say(member_.deskName(), "a Logon from " + clientsAddress_ + " is refused: " + why);
+    sayRefused(why);
     const std::string told = uncountedReject(member_.session, logon, why);
     session_->getLog()->onIncoming(message);
     session_->getLog()->onOutgoing(told);
@@ -308,9 +315,7 @@ void Conversation::reject(const std::string &message, const Judged &refused, FIX
     if (!isOfSession(refused)) endSession("SenderCompID (49) or TargetCompID (56) is another one");
     if (number > expected) return;
     if (number < expected && refused.is(FIX::FIELD::PossDupFlag, "Y")) return;
-    if (number < expected)
-        endSession("MsgSeqNum too low, expecting " + std::to_string(expected) + " but received " +
-                   std::to_string(number));
+    if (number < expected) endSession(tooLow(expected, number));
     session_->getLog()->onEvent("Message " + std::to_string(number) + " Rejected: " + why);
     send(told);
     session_->setNextTargetMsgSeqNum(static_cast<int>(number) + 1);

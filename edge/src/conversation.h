@@ -1,7 +1,7 @@
 #pragma once
 
 // What a member's client says, on the way from connection.h to the session. Each message is judged here, and what isn't
-// good is answered here or passed over. The session hands requests on to trader.h.
+// good is answered here or passed over. The session hands requests on to traders.h.
 
 #include <poll.h>
 #include <quickfix/Message.h>
@@ -24,8 +24,7 @@
 #include "resends.h"
 #include "settings.h"
 #include "store.h"
-#include "trader.h"
-#include "venue_link.h"
+#include "traders.h"
 
 namespace edge {
 
@@ -33,8 +32,7 @@ namespace edge {
 /// ends the client's connection where a call says why. Some calls need a client: all from `read` to `end`.
 class Conversation {
 public:
-    Conversation(const MemberSettings &member, const Logons &logons, const VenueLink &link, Trader &trader, Day &day,
-                 Answers &answers);
+    Conversation(const MemberSettings &member, const Logons &logons, Traders &traders, Day &day, Answers &answers);
 
     /// Gives it its session and store, before it begins.
     void attach(FIX::Session &session, Store &store);
@@ -112,6 +110,7 @@ private:
     bool isOfSession(const Judged &it) const;
     bool isOfTraders(const Judged &it) const;
     bool isRefused(const std::string &message, const Judged &logon);
+    void sayRefused(const std::string &why);
     bool isLongResend(const std::string &message, const Judged &request);
     void resendPiece();
     void passOver();
@@ -122,8 +121,7 @@ private:
 
     const MemberSettings &member_;
     const Logons &logons_;
-    const VenueLink &link_;
-    Trader &trader_;
+    Traders &traders_;
     Day &day_;
     Answers &answers_;
     FIX::Session *session_ = nullptr;

@@ -1,6 +1,7 @@
 #include "copies.h"
 
 #include <algorithm>
+#include <map>
 #include <stdexcept>
 
 #include "event_line.h"
@@ -10,7 +11,7 @@ namespace edge {
 
 namespace {
 
-constexpr std::chrono::milliseconds SOON(20), REST(1000);
+constexpr std::chrono::milliseconds SOON(20), REST(1000), MOST_REST(30000);
 constexpr int MOST_LOOKS = 16;               // At the journal in one turn.
 constexpr int MOST_AT_ONCE = 256;            // Reports that are told in one turn.
 constexpr std::chrono::seconds LASTS(10);    // What has read the journal for so long reads it.
@@ -36,9 +37,11 @@ std::string withName(const std::string &compId, CopyNames names, const std::stri
 
 constexpr std::size_t Copies::MOST_MEMBERS, Copies::MOST_HELD;
 
-Copies::Copies(const Settings &settings, Record &record, Teller &teller, ReplayTurn &turn)
+Copies::Copies(const Settings &settings, std::size_t at, Record &record, Teller &teller, ReplayTurn &turn)
     : settings_(settings),
+      place_(settings.venues[at]),
       record_(record),
+      own_(record, at),
       teller_(teller),
       turn_(turn),
       room_(settings.folder, settings.diskReserve),
@@ -46,7 +49,7 @@ Copies::Copies(const Settings &settings, Record &record, Teller &teller, ReplayT
       make_(record.database(), "CREATE TABLE IF NOT EXISTS copies (member TEXT PRIMARY KEY, report INTEGER NOT NULL)"),
       read_(record.database(), "SELECT member, report FROM copies"),
       put_(record.database(), "INSERT OR REPLACE INTO copies VALUES (?, ?)") {
-    for (const CopiedMember &it : settings.member.copied) all_.emplace_back(it, settings);
+    for (const CopiedMember &it : settings.member.copied) all_.emplace_back(it, settings, place_.letter);
 }
 
 void Copies::drop() {
@@ -57,18 +60,25 @@ void Copies::drop() {
 
 void Copies::attach() {
     drop();
+    again_ = std::chrono::milliseconds(0);
     for (Of &it : all_) {
         it.held.clear();
         it.told = it.kept = it.command = it.greatest = 0;
         it.isBehind = it.isSlow = false;
     }
     make_.run();
-    for (Rows rows = read_.of(); rows.next();)
-        if (Of *const of = find(rows.bytes(0))) of->told = of->kept = rows.number(1);
+    std::map<std::string, long> told;
+    for (Rows rows = read_.of(); rows.next();) told[rows.bytes(0)] = rows.number(1);
+    for (Of &it : all_) it.told = it.kept = told[keyOf(it.name)];
     for (Of &it : all_) {
         it.hasSeenTold = !it.told;
         last_ = std::max(last_.load(), it.told);
     }
+}
+
+/// What a member is called in the record: with the venue's letter, but for the first venue that the record has had.
+std::string Copies::keyOf(const std::string &member) const {
+    return own_.isFirst() ? member : member + "." + place_.letter;
 }
 
 Copies::Of *Copies::find(const std::string &name) {
@@ -81,7 +91,7 @@ bool Copies::drive() {
     if (reader_) return true;
     if (Clock::now() < readAt_ || (!isWhole_ && !turn_.tryTake())) return false;
     try {
-        reader_.reset(new Replay(settings_.venue, settings_.member.name(), isWhole_ ? command_ : Replay::ONCE));
+        reader_.reset(new Replay(place_, settings_.member.name(), isWhole_ ? command_ : Replay::ONCE));
         readSince_ = Clock::now();
     } catch (const std::runtime_error &fault) {
         lose(fault.what());
@@ -93,11 +103,15 @@ bool Copies::drive() {
 void Copies::lose(const std::string &why) {
     if (reader_ && Clock::now() - readSince_ >= LASTS) reads();
     isCutOff_ = true;
-    if (saidOfReader_ != why) say(settings_.member.name(), "the journal isn't read, and that begins anew: " + why);
+    if (saidOfReader_ != why)
+        say(settings_.member.name(), (place_.letter.empty() ? "" : place_.letter + " ") +
+                                         "the journal isn't read, and that begins anew: " + why);
     saidOfReader_ = why;
     reader_.reset();
     turn_.giveBack();
-    readAt_ = Clock::now() + REST;
+    const bool isAlone = isWhole_ || place_.letter.empty();  // Else its readings keep those of other venues waiting.
+    again_ = isAlone || !again_.count() ? REST : std::min(2 * again_, MOST_REST);
+    readAt_ = Clock::now() + again_;
 }
 
 /// The journal is read: an end of that would be another one.
@@ -148,13 +162,14 @@ void Copies::read() {
     turn_.giveBack();
     reader_.reset();
     isWhole_ = true;
+    again_ = std::chrono::milliseconds(0);
     reads();
 }
 
 void Copies::needTold(const Of &of) const {
     if (!of.hasSeenTold)
-        throw std::runtime_error("its store has report " + std::to_string(of.told) + " of " + of.name +
-                                 ", which the journal hasn't: that is another journal, or an older copy");
+        throw VenueFault("its store has report " + std::to_string(of.told) + " of " + of.name +
+                         ", which the journal hasn't: that is another journal, or an older copy");
 }
 
 /// A line of venue-events.
@@ -175,6 +190,7 @@ void Copies::takeOutput(const char *from, std::size_t size) {
     const Fields report(it.rest(), it.size(), '|');
     const long number = report.number(17);
     if (report.byte(35) != '8' || !number) return;
+    if (!place_.letter.empty() && !place_.trades(report.text(55))) return;  // Of another venue, as trader.cpp says.
     for (const int tag : {41, 11}) of->greatest = std::max(of->greatest, report.number(tag));
     if (number == of->told) of->hasSeenTold = true;
     if (number <= (of->held.empty() ? of->told : of->held.back().report)) return;
@@ -260,7 +276,7 @@ void Copies::keep() {
     record_.changeTables();
     for (Of &it : all_) {
         if (it.kept == it.told) continue;
-        put_.run(it.name, it.told);
+        put_.run(keyOf(it.name), it.told);
         it.kept = it.told;
     }
 }

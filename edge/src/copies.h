@@ -1,7 +1,8 @@
 #pragma once
 
-// The reports of other members, for a session that is sent copies of them. It reads the journal by replay.h, asks the
-// members' processes for names by name_asker.h, and tells by teller.h; member.cpp has it in its turns.
+// The reports of other members at one venue, for a session that is sent copies of them. It reads the journal by
+// replay.h, asks the members' processes for names by name_asker.h, and tells by teller.h; member.cpp has it in its
+// turns.
 
 #include <poll.h>
 
@@ -25,10 +26,11 @@
 #include "room.h"
 #include "settings.h"
 #include "teller.h"
+#include "venue_record.h"
 
 namespace edge {
 
-/// The ExecutionReports that the venue has told some members, each told once to one session, those of each member in
+/// The ExecutionReports that a venue has told some members, each told once to one session, those of each member in
 /// their order. How far it is with each of them is kept with the messages themselves. A member whose process doesn't
 /// tell its names, or tells them slowly, waits alone.
 class Copies {
@@ -38,7 +40,8 @@ public:
     using Polled = std::array<pollfd, MOST_MEMBERS + 1>;
     using HasRoom = std::function<bool()>;
 
-    Copies(const Settings &settings, Record &record, Teller &teller, ReplayTurn &turn);
+    /// Of the venue at this place of the settings.
+    Copies(const Settings &settings, std::size_t at, Record &record, Teller &teller, ReplayTurn &turn);
 
     /// The record has been read: it goes on behind what that has.
     void attach();
@@ -72,8 +75,14 @@ public:
     long last() const { return last_; }
     bool isCutOff() const { return isCutOff_; }  // From the journal, which it doesn't read now.
 
+    /// The same with the letter of the venue, where it has one.
+    std::string lastWord() const { return place_.letter + std::to_string(last_); }
+
     /// Whose reports wait for their process, and how many, in words, or nothing.
     std::string waiting() const;
+
+    /// The journal can't be used: why. It is read anew soon.
+    void restAfter(const std::string &why) { lose(why); }
 
 private:
     using Clock = std::chrono::steady_clock;
@@ -86,10 +95,10 @@ private:
 
     /// A member whose reports are copied.
     struct Of {
-        Of(const CopiedMember &it, const Settings &settings)
+        Of(const CopiedMember &it, const Settings &settings, const std::string &letter)
             : name(it.name),
-              asker(it),
-              reports(settings.ticks, asker, settings.member.limits.lastCapacity) {}
+              asker(it, letter),
+              reports(settings.ticks, asker, settings.member.limits.lastCapacity, letter) {}
 
         const std::string name;
         NameAsker asker;
@@ -108,6 +117,7 @@ private:
     };
 
     Of *find(const std::string &name);
+    std::string keyOf(const std::string &member) const;
     void take(const char *line, std::size_t size);
     void takeOutput(const char *from, std::size_t size);
     bool isFull() const;
@@ -122,7 +132,9 @@ private:
     void keep();
 
     const Settings &settings_;
+    const VenuePlace &place_;
     Record &record_;
+    const VenueRecord own_;
     Teller &teller_;
     ReplayTurn &turn_;
     std::list<Of> all_;
@@ -130,6 +142,7 @@ private:
     bool isWhole_ = false;  // The journal was read to its end, and is followed.
     long command_ = 0;      // Whose lines come, or came last.
     Clock::time_point readAt_, readSince_;
+    std::chrono::milliseconds again_{0};  // Behind the last reading that failed it is read again: others wait for that.
     std::string saidOfReader_, saidOfDisk_;
     Room room_;
     Quota quota_;

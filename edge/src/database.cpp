@@ -5,6 +5,7 @@
 
 #include "files.h"
 #include "lines.h"
+#include "read_ahead.h"
 
 namespace edge {
 
@@ -29,7 +30,8 @@ void Database::open() {
     } catch (const std::runtime_error &why) {
         fail(why.what());
     }
-    const int result = ::sqlite3_open_v2(path_.c_str(), &handle_, SQLITE_OPEN_READWRITE | SQLITE_OPEN_NOMUTEX, nullptr);
+    const int result =
+        ::sqlite3_open_v2(path_.c_str(), &handle_, SQLITE_OPEN_READWRITE | SQLITE_OPEN_NOMUTEX, readAhead());
     try {
         if (result != SQLITE_OK) fail();
         ::sqlite3_db_config(handle_, SQLITE_DBCONFIG_NO_CKPT_ON_CLOSE, 1, nullptr);

@@ -58,11 +58,11 @@ bool Day::isOpen() const {
 }
 
 /// An end in the days to come was one of a clock that was wrong: the next one is that behind now.
-std::string Day::endOfOrders() {
-    const long now = std::time(nullptr), ended = record_.ofMember().state().ordersEnded;
+std::string Day::endOfOrders(VenueRecord &venue) {
+    const long now = std::time(nullptr), ended = venue.state().ordersEnded;
     const bool isAhead = ended > now + Schedule::DAY;
     if (!isAhead && !ofOrders_.isOver(ended, now)) return "";
-    const long end = record_.ofMember().change().ordersEnded = ofOrders_.lastEnd(now);
+    const long end = venue.change().ordersEnded = ofOrders_.lastEnd(now);
     return isAhead ? "" : timeOf(end);
 }
 

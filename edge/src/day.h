@@ -17,6 +17,7 @@
 #include "session_record.h"
 #include "settings.h"
 #include "store.h"
+#include "venue_record.h"
 
 namespace edge {
 
@@ -44,9 +45,9 @@ public:
     /// Whether the member may log on now.
     bool isOpen() const;
 
-    /// The end of a day that what is Day is to end by now, as FIX writes it; nothing where each end was passed. Whoever
-    /// asks ends it in this turn.
-    std::string endOfOrders();
+    /// The end of a day that what is Day is to end by now at a venue, as FIX writes it; nothing where each end was
+    /// passed. Whoever asks ends it in this turn.
+    std::string endOfOrders(VenueRecord &venue);
 
     /// Begins the next day. No client is there any more.
     void begin();

@@ -141,7 +141,7 @@ bool Door::greet(Guest &guest) {
     guest.looked += guest.bytes.size();
     if (guest.looked > MOST_LOOKED) throw BadBytes("its first message comes in too many pieces");
     const Sight &sight = framer_.look(guest.bytes.data(), guest.bytes.size());
-    if (sight.passed) throw BadBytes("what came is no FIX message, or too long a one");
+    if (sight.passed) throw BadBytes("what came is no message of FIX.4.4, or too long a one");
     if (sight.kind == Framer::None) return false;
     const std::string first = guest.bytes.substr(0, sight.size);
     const Judged logon(first, framer_);

@@ -174,6 +174,11 @@ void Exposure::clear() {
     shown_ = 0;
 }
 
+Money Exposure::value(int desk) const {
+    const auto found = values_.find(desk);
+    return !desk ? value_ : found == values_.end() ? 0 : found->second;
+}
+
 Money Exposure::valueWith(long original, const Request &it, long price) const {
     const Order *const order = orderOf(original, it);
     const Tick &tick = ticks_.at(it.symbol);

@@ -54,6 +54,9 @@ public:
     /// with. No price: it trades with each.
     std::vector<long> crossedBy(const std::string &symbol, char side, long price) const;
 
+    /// The value of all that a desk has open, or of all where none is named.
+    Money value(int desk) const;
+
     /// For who looks from outside, of any thread.
     Money shownValue() const;
 

@@ -46,8 +46,10 @@ std::string firstBytes(const std::string &path) {
 
 void makeFile(const std::string &path) {
     const Descriptor file(::open(path.c_str(), O_RDWR | O_CREAT | O_EXCL | O_CLOEXEC, 0600));
-    if (!file && errno == EEXIST) return;
-    if (!file) throw std::runtime_error("can't make " + path + ": " + reason());
+    if (!file && errno != EEXIST) throw std::runtime_error("can't make " + path + ": " + reason());
+}
+
+void syncFoldersOf(const std::string &path) {
     for (std::string folder = path, inner; folder != "." && folder != inner;) {
         inner = folder;
         folder = folderOf(folder);

@@ -19,9 +19,12 @@ long changeTime(const std::string &path);
 /// What a short file begins with; nothing where it can't be read.
 std::string firstBytes(const std::string &path);
 
-/// Makes an empty file for its owner alone, unless it is there, so that a power cut leaves its name, and those of the
-/// folders above that may be read. Throws a std::runtime_error where it can't.
+/// Makes an empty file for its owner alone, unless it is there. Throws a std::runtime_error where it can't.
 void makeFile(const std::string &path);
+
+/// Syncs the folder of a file and those above that may be read, so that a power cut leaves its name and theirs, whoever
+/// has made them. Throws a std::runtime_error where it can't.
+void syncFoldersOf(const std::string &path);
 
 /// Writes all these bytes, or throws a std::runtime_error: a part of them may have been written then.
 void writeAll(int fd, const std::string &bytes, const std::string &path);

@@ -148,7 +148,7 @@ void Limiter::needClosing(const Request &it, long original) {
 
 void Limiter::needOpenValue(const Request &it, long original) {
     needPrice(Limit::OpenValue, it);
-    const Money value = own_.desksValueWith(original, it, priceOf(it));
+    const Money value = own_.desksValueWith(original, it, priceOf(it)) + elsewhere_.openValue(it.desk);
     if (value <= moneyOf(limits_.openValue)) return;
     refuse(Limit::OpenValue, it, EXCEEDS,
            "the value of all that is open would be " + textOf(value) + ", above " + wordsOf(Limit::OpenValue));
@@ -157,7 +157,7 @@ void Limiter::needOpenValue(const Request &it, long original) {
 /// The same of all that the member's desks have open.
 void Limiter::needMembersValue(const Request &it, long original) {
     needPrice(Limit::MembersOpenValue, it);
-    const Money value = own_.valueWith(original, it, priceOf(it));
+    const Money value = own_.valueWith(original, it, priceOf(it)) + elsewhere_.openValue(0);
     if (value > moneyOf(limits_.membersOpenValue))
         refuse(Limit::MembersOpenValue, it, EXCEEDS,
                "the value of all that its member has open would be " + textOf(value) + ", above " +

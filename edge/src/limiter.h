@@ -5,6 +5,7 @@
 #include <map>
 #include <string>
 
+#include "elsewhere.h"
 #include "exposure.h"
 #include "market.h"
 #include "order_limits.h"
@@ -18,10 +19,10 @@ namespace edge {
 /// member with several desks each has a limiter of its own.
 class Limiter {
 public:
-    /// By what the member has open, of which some is the desk's own.
+    /// By what the member has open at its venue, of which some is the desk's own, and by what it has elsewhere.
     Limiter(const OrderLimits &limits, const std::map<std::string, Tick> &ticks, const Exposure &own,
-            const Market &market)
-        : limits_(limits), ticks_(ticks), own_(own), market_(market) {}
+            const Market &market, const Elsewhere &elsewhere)
+        : limits_(limits), ticks_(ticks), own_(own), market_(market), elsewhere_(elsewhere) {}
 
     /// An order, or a replace of the order of this number, breaks no limit, or is Refused in words that have the limit
     /// and its value.
@@ -60,6 +61,7 @@ private:
     const std::map<std::string, Tick> &ticks_;
     const Exposure &own_;
     const Market &market_;
+    const Elsewhere &elsewhere_;
     std::array<std::atomic<long>, LIMITS> refusals_{};
 };
 

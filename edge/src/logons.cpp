@@ -40,7 +40,7 @@ std::string Logons::refusalOf(const Judged &logon) const {
         return "ResetSeqNumFlag (141) isn't taken: it would drop what was missed";
     if (isFaulty_) return "this member can't be served, and the operator of the venue is told why";
     if (member_.isOfCopies()) return areCopiesThere_ ? "" : "the journal isn't read yet: try again";
-    return trader_.isReady() ? "" : "the venue isn't there yet: try again";
+    return traders_.letsOn() ? "" : "the venue isn't there yet: try again";
 }
 
 }

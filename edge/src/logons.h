@@ -7,7 +7,7 @@
 
 #include "canonical.h"
 #include "settings.h"
-#include "trader.h"
+#include "traders.h"
 
 namespace edge {
 
@@ -17,7 +17,7 @@ std::string faultOf(const std::string &username, const std::string &password);
 /// What a Logon has to have to be taken as the member's. The hours of the session are another thing, of day.h.
 class Logons {
 public:
-    Logons(const MemberSettings &member, const Trader &trader) : member_(member), trader_(trader) {}
+    Logons(const MemberSettings &member, const Traders &traders) : member_(member), traders_(traders) {}
 
     /// Whether a user of this name and password is this member. Of any thread.
     bool knows(const std::string &username, const std::string &password) const;
@@ -33,7 +33,7 @@ public:
 
 private:
     const MemberSettings &member_;
-    const Trader &trader_;
+    const Traders &traders_;
     bool isFaulty_ = false, areCopiesThere_ = false;
 };
 

@@ -22,7 +22,7 @@ const char *const USAGE = "usage: gikvand-edge [--check] [--all|--member Ck] SET
                           "       gikvand-edge stop|resume|cancel|status|numbers Ck|all SETTINGS...\n"
                           "       gikvand-edge halt|resume SYMBOL SETTINGS...\n"
                           "       gikvand-edge numbers Ck OUT IN SETTINGS...\n"
-                          "       gikvand-edge --version";
+                          "       gikvand-edge --help|--version";
 
 /// What the words of a command line ask for.
 struct Words {
@@ -35,6 +35,12 @@ struct Words {
 int actForVersion() {
     std::cout << "gikvand-edge " << GIKVAND_VERSION << std::endl;
     return std::cout ? 0 : 1;
+}
+
+/// Tells the words that there are.
+int actForHelp() {
+    std::cout << USAGE << "\n\ngikvand-edge(8) says what they do, and gikvand-edge.cfg(5) what SETTINGS may have.\n";
+    return std::cout.flush() ? 0 : 1;
 }
 
 /// Whether these are words that there are.
@@ -51,19 +57,31 @@ bool isRead(const std::vector<std::string> &words, Words &into) {
 
 /// Tells of a journal that can't be read now: its venue makes it at the first start, so that is no fault of the
 /// settings.
-void tellOfJournal(const std::string &path) {
+void tellOfJournal(const edge::VenuePlace &venue) {
+    const std::string &path = venue.journal;
     if (!::access(path.c_str(), R_OK)) return;
     const bool isThere = errno != ENOENT && errno != ENOTDIR;
-    std::cout << "VenueJournal: " << (isThere ? "can't be read" : "isn't there") << " now: " << path << "\n";
+    std::cout << "VenueJournal" << venue.letter << ": " << (isThere ? "can't be read" : "isn't there")
+              << " now: " << path << "\n";
 }
 
-/// Tells who finds these settings right, what they lack of the venue, and which members couldn't log on now.
+/// Tells of a session that asks who comes, though it may take anyone in.
+void tellOfIdentity(const edge::MemberSettings &it) {
+    if (!it.takesAnyone || (it.username.empty() && it.certificate.empty())) return;
+    const char *const asks = it.username.empty() ? "StunnelConfig asks for a certificate" : "Username asks for a password";
+    std::cout << it.deskName() << ": " << asks << ", in spite of AllowAnyone=Y\n";
+}
+
+/// Tells who finds these settings right, what they lack of the venue, which members couldn't log on now, and which
+/// sessions ask for more than the settings seem to want.
 int tellRight(const std::vector<edge::Settings> &members) {
     std::cout << "the settings are right, as " << edge::userOf(::geteuid()) << " reads them\n";
-    tellOfJournal(members.front().venue.journal);  // One for all.
+    for (const edge::VenuePlace &it : members.front().venues) tellOfJournal(it);  // The same for all.
     for (const edge::Settings &it : members) {
         const std::string outside = edge::outsideOf(it.hours, std::time(nullptr));
         if (!outside.empty()) std::cout << it.member.name() << ": " << outside << "\n";
+        tellOfIdentity(it.member);
+        for (const edge::Settings &desk : it.desks) tellOfIdentity(desk.member);
     }
     return std::cout.flush() ? 0 : 1;
 }
@@ -113,6 +131,7 @@ int actForAll(const Words &words) {
 int main(int count, char **given) {
     const std::vector<std::string> all(given + 1, given + count);
     if (all == std::vector<std::string>{"--version"}) return actForVersion();
+    if (all == std::vector<std::string>{"--help"}) return actForHelp();
     const bool asks = !all.empty() && edge::isVerb(all[0]);
     Words words;
     edge::Call call;

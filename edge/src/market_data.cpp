@@ -22,7 +22,7 @@ std::size_t mostLevelsBy(const Limits &limits) {
 
 constexpr std::size_t MarketData::MOST_REQUESTS, MarketData::MOST_LEVELS;
 
-MarketData::MarketData(const MemberSettings &member, const std::map<std::string, Tick> &ticks, const Books &books)
+MarketData::MarketData(const MemberSettings &member, const std::map<std::string, Tick> &ticks, const Shelf &books)
     : member_(member), ticks_(ticks), books_(books), mostLevels_(mostLevelsBy(member.limits)) {}
 
 void MarketData::asked(const FIX::Message &message) {
@@ -108,6 +108,11 @@ bool MarketData::wants(const Open &it, const Sight &sight) const {
     return isOnce ? !sight.version : sight.version != books_.of(sight.symbol).version();
 }
 
+/// Whether that can be told now: the symbol's venue is there.
+bool MarketData::mayTell(const Open &it, const Sight &sight) const {
+    return wants(it, sight) && books_.isThere(sight.symbol);
+}
+
 bool MarketData::isBehind(const Open &it) const {
     return std::any_of(it.sights.begin(), it.sights.end(), [&](const Sight &sight) { return wants(it, sight); });
 }
@@ -115,7 +120,7 @@ bool MarketData::isBehind(const Open &it) const {
 /// Tells what is new of a request's symbols. Whether there was room for all: else those that weren't told come first.
 bool MarketData::isTold(Open &it, bool isDue, const std::function<bool()> &hasRoom) {
     for (auto sight = it.sights.begin(); sight != it.sights.end(); ++sight) {
-        if (!wants(it, *sight) || !(isDue || sight->isNew)) continue;
+        if (!mayTell(it, *sight) || !(isDue || sight->isNew)) continue;
         if (!hasRoom()) {
             std::rotate(it.sights.begin(), sight, it.sights.end());
             return false;
@@ -143,8 +148,9 @@ void MarketData::tell(const std::function<bool()> &hasRoom) {
 }
 
 std::chrono::milliseconds MarketData::pause(std::chrono::milliseconds most) const {
-    const bool isAnyBehind =
-        std::any_of(requests_.begin(), requests_.end(), [this](const Open &it) { return isBehind(it); });
+    const bool isAnyBehind = std::any_of(requests_.begin(), requests_.end(), [this](const Open &it) {
+        return std::any_of(it.sights.begin(), it.sights.end(), [&](const Sight &at) { return mayTell(it, at); });
+    });
     if (!isAnyBehind) return most;
     const auto left = std::chrono::duration_cast<std::chrono::milliseconds>(dueAt_ - Clock::now()).count() + 1;
     return std::min(most, std::chrono::milliseconds(std::max(0L, static_cast<long>(left))));

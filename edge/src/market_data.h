@@ -14,7 +14,7 @@
 #include <string>
 #include <vector>
 
-#include "books.h"
+#include "shelf.h"
 #include "market_requests.h"
 #include "settings.h"
 #include "ticks.h"
@@ -37,7 +37,7 @@ class MarketData {
 public:
     static constexpr std::size_t MOST_REQUESTS = 16, MOST_LEVELS = 1000;
 
-    MarketData(const MemberSettings &member, const std::map<std::string, Tick> &ticks, const Books &books);
+    MarketData(const MemberSettings &member, const std::map<std::string, Tick> &ticks, const Shelf &books);
 
     void attach(FIX::Session &session) { session_ = &session; }
 
@@ -50,7 +50,7 @@ public:
     /// The client is gone, and its requests with it.
     void end() { requests_.clear(); }
 
-    /// Tells what is due, as long as the client has room. The books are whole.
+    /// Tells what is due, as long as the client has room, of the symbols whose books are those of the market now.
     void tell(const std::function<bool()> &hasRoom);
 
     /// How long of this time it may be until something is due.
@@ -83,6 +83,7 @@ private:
     Requests::iterator find(const std::string &id);
     void refuse(const FIX::Message &message, const MarketRefused &why);
     bool wants(const Open &it, const Sight &sight) const;
+    bool mayTell(const Open &it, const Sight &sight) const;
     bool isTold(Open &it, bool isDue, const std::function<bool()> &hasRoom);
     void tell(const MarketRequest &request, Sight &sight);
     bool isBehind(const Open &it) const;
@@ -91,7 +92,7 @@ private:
 
     const MemberSettings &member_;
     const std::map<std::string, Tick> &ticks_;
-    const Books &books_;
+    const Shelf &books_;
     const std::size_t mostLevels_;
     FIX::Session *session_ = nullptr;
     Requests requests_;  // Those that have waited longest are in front.

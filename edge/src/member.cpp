@@ -16,17 +16,7 @@ namespace edge {
 namespace {
 
 constexpr std::chrono::milliseconds TICK(500), AGAIN(200), SOON(5), REST(1000);
-constexpr std::chrono::milliseconds QUIET(2);    // So long nothing has come in a quiet moment.
-constexpr std::size_t FIXED = 4;                 // Descriptors that are watched beside those of clients and copies.
-constexpr int MOST_LINK_LOOKS = 64;              // At the venue's link in one turn: the venue ends one that isn't read.
-constexpr int MOST_MARKET_LOOKS = 16;            // At what the venue tells all, in one turn.
-constexpr std::chrono::milliseconds WHOLE(10);   // Behind the last line of a command so much is silence.
-constexpr std::chrono::milliseconds LATE(1000);  // So far behind the venue's reports the market isn't told.
-
-bool isReadable(int fd) {
-    pollfd it{fd, POLLIN, 0};
-    return ::poll(&it, 1, 0) > 0;
-}
+constexpr std::chrono::milliseconds QUIET(2);  // So long nothing has come in a quiet moment.
 
 /// Whether a desk may ask for the market.
 bool isMarketOpen(const Settings &settings) {
@@ -34,37 +24,43 @@ bool isMarketOpen(const Settings &settings) {
     return std::any_of(all.begin(), all.end(), [](const MemberSettings *it) { return it->market.isOpen; });
 }
 
+/// Does this with what there is for each venue. What can't be used rests alone, where there are others.
+template <class Part, class Act>
+void each(std::list<Part> &parts, const Act &act) {
+    for (Part &it : parts) {
+        try {
+            act(it);
+        } catch (const VenueFault &why) {
+            if (parts.size() == 1) throw;
+            it.restAfter(why.what());
+        }
+    }
 }
 
-const char *wordsOf(Member::State state) {
-    switch (state) {
-        case Member::State::WaitsForVenue: return "waits for the venue";
-        case Member::State::ReadsJournal: return "reads the journal";
-        case Member::State::TellsAgain: return "tells again what its engine wasn't sent";
-        case Member::State::Serves: return "serves";
-        case Member::State::IsNotServed: break;
-    }
-    return "isn't served";
 }
 
 Member::Member(const Settings &settings, Record &record)
     : settings_(settings),
       member_(settings.member),
-      isMarketOpen_(isMarketOpen(settings)),
       record_(record),
-      names_(record),
-      turn_(settings.ofAll.edge),
-      link_(settings.venue.port + settings.member.number - 1, settings.member.name()),
-      trader_(settings, record, names_, link_),
-      books_(isMarketOpen_ ? settings.ticks : std::map<std::string, Tick>()),
-      marketsTurn_(needsMarket() ? new ReplayTurn(settings.ofAll.edge, "following.lock") : nullptr),
-      operators_(settings.member, trader_, sessions_),
-      bell_(::eventfd(0, EFD_NONBLOCK | EFD_CLOEXEC)),
-      copies_(member_.isOfCopies() ? new Copies(settings, record, trader_.teller(), turn_) : nullptr) {
+      shared_(settings, record),
+      traders_(shared_),
+      operators_(settings.member, traders_, sessions_),
+      bell_(::eventfd(0, EFD_NONBLOCK | EFD_CLOEXEC)) {
     Turning &thread = *this;
-    sessions_.emplace_back(settings, record, names_, link_, trader_, books_, thread);
-    for (const Settings &it : settings.desks)
-        sessions_.emplace_back(it, record, names_, link_, trader_, books_, thread);
+    Hosting &host = *this;
+    for (std::size_t at = 0; at < settings.venues.size(); at++) {
+        venues_.emplace_back(settings, at, record, shared_, isMarketOpen(settings), host);
+        Venue &it = venues_.back();
+        traders_.add(it.trader());
+        books_.add(it.place().symbols, it.books());
+        if (!member_.isOfCopies()) continue;
+        turns_.emplace_back(settings.ofAll.edge);
+        copies_.emplace_back(settings, at, record, it.trader().teller(), turns_.back());
+    }
+    traders_.join();
+    sessions_.emplace_back(settings, record, traders_, books_, thread);
+    for (const Settings &it : settings.desks) sessions_.emplace_back(it, record, traders_, books_, thread);
 }
 
 Member::~Member() {
@@ -78,7 +74,8 @@ MemberSession &Member::session(int desk) {
 
 void Member::attached() {
     isStoreRead_ = storeFault().empty();
-    if (copies_ && isStoreRead_) copies_->attach();
+    if (isStoreRead_)
+        for (Copies &it : copies_) it.attach();
     operators_.attach(first().log());
 }
 
@@ -145,12 +142,21 @@ void Member::run() {
     try {
         keep();
         operators_.end();
-        if (link_.state() == VenueLink::State::Up && !link_.flush()) say(member_.name(), "the venue: " + link_.why());
+        for (Venue &it : venues_) it.end();
         record_.finish();
     } catch (const std::exception &why) {
         say(member_.name(), why.what());
     }
-    turnBack();
+    for (Venue &it : venues_) it.turnBack();
+    for (ReplayTurn &it : turns_) it.giveBack();
+}
+
+Serving Member::state() const {
+    if (member_.isOfCopies()) return state_;
+    for (const Serving wanted : {Serving::Serves, Serving::ReadsJournal, Serving::WaitsForVenue})
+        for (const Venue &it : venues_)
+            if (it.state() == wanted) return wanted;
+    return Serving::IsNotServed;
 }
 
 /// Commits what was written since the last time: only behind that may go out what rests on it. Where a part of that
@@ -158,43 +164,30 @@ void Member::run() {
 void Member::keep() {
     for (const MemberSession &it : sessions_)
         if (!it.fault().empty()) throw std::runtime_error(it.fault());
-    if (!trader_.fault().empty()) throw std::runtime_error(trader_.fault());
+    if (!traders_.fault().empty()) throw std::runtime_error(traders_.fault());
     if (isStoreRead_ && !storeFault().empty()) throw std::runtime_error(storeFault());
     if (record_.isChanging())  // Else the next look at the clock does.
         for (MemberSession &it : sessions_) it.keepDay();
     record_.commit();
     for (MemberSession &it : sessions_) it.committed();
-    link_.release();
+    for (Venue &it : venues_) it.release();
     for (MemberSession &it : sessions_) it.release();
     operators_.release();
-}
-
-void Member::turnBack() {
-    replay_.reset();
-    turn_.giveBack();
-}
-
-/// Whether something is to read the journal, once it is this member's turn.
-bool Member::wantsTurn() const {
-    return wantsReplay_ || (needsMarket() && trader_.isReady() && !follower_);
 }
 
 /// Something that this member's thread can't go on from: all connections end, and it begins anew from disk and journal.
 void Member::restAfter(const std::string &why) {
     if (saidOfFault_ != why) say(member_.name(), "isn't served: " + why);
     saidOfFault_ = why;
-    state_ = State::IsNotServed;
+    state_ = Serving::IsNotServed;
     setResting(true);
-    link_.end();
-    turnBack();
-    wantsReplay_ = false;
-    trader_.venueLost();
-    trader_.clearFault();
+    for (Venue &it : venues_) it.rest();
+    traders_.clearFault();
     connectAt_ = restsUntil_ = Clock::now() + REST;
     isStoreRead_ = false;
     record_.close();  // What this turn wrote is lost, and so is what it sent.
     for (MemberSession &it : sessions_) it.drop();
-    if (copies_) copies_->drop();
+    for (Copies &it : copies_) it.drop();
     operators_.drop(why);
     try {
         endClients("it isn't served");
@@ -217,7 +210,7 @@ void Member::setResting(bool rests) {
 
 void Member::readStore() {
     for (MemberSession &it : sessions_) it.readStore();
-    if (copies_) copies_->attach();
+    for (Copies &it : copies_) it.attach();
     isStoreRead_ = true;
 }
 
@@ -226,18 +219,16 @@ void Member::turn() {
     wait();
     lookAtDay();
     takeCommands();  // Behind the end of a day, and in front of what the client sends.
-    if (hasLink_) readLink();
-    if (hasJournal_) readJournal();
-    if (hasMarket_) readMarket();
+    each(venues_, [](Venue &it) { it.read(); });
     for (MemberSession &it : sessions_) it.read();
     tick();
     tellAgain();
     answer();
-    if (copies_ && isStoreRead_) tellCopies();
+    if (!copies_.empty() && isStoreRead_) tellCopies();
     if (isStoreRead_) operators_.look();
     keep();
     flush();
-    if (!rests() && record_.isVeryUntidy(trader_.isSweeping())) record_.tidy();
+    if (!rests() && record_.isVeryUntidy(traders_.isSweeping())) record_.tidy();
 }
 
 /// Whether what the edge does by itself waits a little: a disk that is full would only fail again, at once.
@@ -252,11 +243,20 @@ void Member::lookAtDay() {
     endOrders();
 }
 
-/// Ends what is Day where a day has ended, once the venue is there, and before the client is read.
+/// Ends what is Day where a day has ended, at each venue that is there, and before the client is read.
 void Member::endOrders() {
-    if (!trader_.isReady()) return;
-    const std::string end = first().endOfOrders();
-    if (!end.empty()) trader_.endDay(end);
+    for (Venue &it : venues_) endOrdersOf(it.trader());
+}
+
+void Member::endOrdersOf(Trader &trader) {
+    if (!trader.isReady()) return;
+    const std::string end = first().endOfOrders(trader.names().own());
+    if (!end.empty()) trader.endDay(end);
+}
+
+void Member::serves() {
+    setResting(false);
+    saidOfFault_.clear();
 }
 
 /// Takes the commands one by one: what fails in one of them leaves the others there.
@@ -279,30 +279,28 @@ bool Member::isAsked(Asked &it) {
 /// Whether the record wants a quiet moment, and nothing is under way that would come late by that: an answer of the
 /// venue is told first.
 bool Member::maySettle() const {
-    return record_.isUntidy() && !rests() && !trader_.isSweeping() && !trader_.isWaiting();
+    return record_.isUntidy() && !rests() && !traders_.isSweeping() && !traders_.isWaiting();
 }
 
 /// How long nothing may come before something is due by itself.
 std::chrono::milliseconds Member::longestPause() {
-    if (copies_) return isStoreRead_ ? copiesPause() : AGAIN / 4;
+    if (!copies_.empty()) return isStoreRead_ ? copiesPause() : AGAIN / 4;
     if (isTellingAgain()) return rests() ? AGAIN / 4 : std::chrono::milliseconds(0);
-    return answersPause(link_.state() == VenueLink::State::Down || wantsTurn() ? AGAIN / 4 : TICK);
+    const bool isAnyDriven = std::any_of(venues_.begin(), venues_.end(), [](const Venue &it) { return it.isDriven(); });
+    return answersPause(isAnyDriven ? AGAIN / 4 : TICK);
 }
 
 /// Waits until something can be done, and notes what. What the last turn has sent is on its way: now its lines are
 /// written, and in a quiet moment the record is tidied up.
 void Member::wait() {
     for (MemberSession &it : sessions_) it.log().flush();
-    std::vector<pollfd> all(FIXED, {-1, 0, 0});
-    all[0] = {bell_.get(), POLLIN, 0};
-    const int reads = trader_.holdsTooMuch() ? 0 : POLLIN, writes = link_.isWriting() ? POLLOUT : 0;
-    if (link_.state() != VenueLink::State::Down) all[1] = {link_.fd(), static_cast<short>(reads | writes), 0};
-    const bool isReadingOver = replay_ && replay_->isOver();
-    if (replay_) all[2] = {replay_->fd(), POLLIN, 0};
-    if (follower_) all[3] = {follower_->fd(), POLLIN, 0};
+    std::vector<pollfd> all{{bell_.get(), POLLIN, 0}};
+    for (const Venue &it : venues_) it.watch(all);
+    const bool isReadingOver =
+        std::any_of(venues_.begin(), venues_.end(), [](const Venue &it) { return it.isReadingOver(); });
     for (MemberSession &it : sessions_) all.push_back(it.watched());
-    if (copies_) {
-        const Copies::Polled those = copies_->watched();
+    for (const Copies &it : copies_) {
+        const Copies::Polled those = it.watched();
         all.insert(all.end(), those.begin(), those.end());
     }
     auto pause = isReadingOver ? SOON : longestPause();
@@ -314,23 +312,28 @@ void Member::wait() {
         if (maySettle()) record_.tidy();
         comes(pause);
     }
-    note(all, isReadingOver);
+    note(all);
 }
 
 /// Notes what has come.
-void Member::note(const std::vector<pollfd> &all, bool isReadingOver) {
-    hasLink_ = all[1].revents & (POLLIN | POLLHUP | POLLERR);
-    hasJournal_ = all[2].revents || isReadingOver;
-    hasMarket_ = all[3].revents || (follower_ && follower_->isOver());
-    std::size_t at = FIXED;
+void Member::note(const std::vector<pollfd> &all) {
+    std::size_t at = 1;
+    for (Venue &it : venues_) {
+        it.came(&all[at]);
+        at += Venue::WATCHED;
+    }
     for (MemberSession &it : sessions_) it.came(all[at++]);
     std::uint64_t rings;
     if (all[0].revents && ::read(bell_.get(), &rings, sizeof rings) < 0) return;  // It has been read already.
 }
 
 void Member::drive() {
-    if (copies_) driveCopies();
-    else driveLink();
+    if (!copies_.empty()) {
+        driveCopies();
+        return;
+    }
+    if (!isStoreRead_ && Clock::now() >= connectAt_) readStore();
+    if (isStoreRead_) each(venues_, [](Venue &it) { it.drive(); });
 }
 
 /// Begins to read what is to be copied, behind what was told. It is served once the journal is known to have that, and
@@ -338,14 +341,21 @@ void Member::drive() {
 void Member::driveCopies() {
     if (Clock::now() < connectAt_) return;
     if (!isStoreRead_) readStore();
-    const bool reads = copies_->drive(), served = state_ == State::Serves;
-    if (copies_->isWhole()) state_ = first().owes() ? State::TellsAgain : State::Serves;
-    else if (reads) state_ = State::ReadsJournal;
-    if (served || state_ != State::Serves) return;
+    const bool served = state_ == Serving::Serves;
+    bool reads = false, isWhole = false;
+    each(copies_, [&](Copies &it) {
+        reads = it.drive() || reads;
+        isWhole = it.isWhole() || isWhole;
+    });
+    if (isWhole) state_ = first().owes() ? Serving::TellsAgain : Serving::Serves;
+    else if (reads) state_ = Serving::ReadsJournal;
+    if (served || state_ != Serving::Serves) return;
     setResting(false);
     first().logons().copiesAreThere();
     saidOfFault_.clear();
-    say(member_.name(), "serves, behind report " + std::to_string(copies_->last()));
+    std::string last;
+    for (const Copies &it : copies_) last += (last.empty() ? "" : ", ") + it.lastWord();
+    say(member_.name(), "serves, behind report " + last);
 }
 
 /// Whether a desk is being told again what it wasn't sent.
@@ -356,19 +366,19 @@ bool Member::isTellingAgain() const {
 /// Tells a desk a piece of what it wasn't sent, one desk at a time, so that others wait for no more than that. What the
 /// venue tells such a desk meanwhile comes behind all of that. Copies have a way of their own.
 void Member::tellAgain() {
-    if (copies_ || rests()) return;
+    if (!copies_.empty() || rests()) return;
     const auto owing =
         std::find_if(sessions_.begin(), sessions_.end(), [](const MemberSession &it) { return it.owes(); });
     if (owing != sessions_.end()) owing->tellOwed();
-    trader_.takeHeld();
+    each(venues_, [](Venue &it) { it.trader().takeHeld(); });
 }
 
 /// Tells copies: to who is away as much as there is, and to who is there as much as is taken. What is told again comes
 /// first.
 void Member::tellCopies() {
-    copies_->read();
-    if (first().owes() && copies_->hasDisk(true)) first().tellOwed();
-    copies_->tell([this] { return mayTellCopies(); });
+    each(copies_, [](Copies &it) { it.read(); });
+    if (first().owes() && copies_.front().hasDisk(true)) first().tellOwed();
+    for (Copies &it : copies_) it.tell([this] { return mayTellCopies(); });
 }
 
 /// Whether copies may be told: not in front of what is told again, and as a client of them takes.
@@ -378,156 +388,22 @@ bool Member::mayTellCopies() const {
 }
 
 std::chrono::milliseconds Member::copiesPause() {
-    if (first().owes()) return copies_->hasDisk(true) ? std::chrono::milliseconds(0) : AGAIN / 4;
-    return copies_->pause(TICK, mayTellCopies());
-}
-
-void Member::driveLink() {
-    if (link_.state() == VenueLink::State::Down && Clock::now() >= connectAt_) {
-        if (!isStoreRead_) readStore();
-        link_.connect();
-        if (link_.state() == VenueLink::State::Down) dropLink(link_.why());
-    }
-    if (wantsReplay_ && !replay_ && !isTellingAgain() && turn_.tryTake()) {
-        wantsReplay_ = false;
-        replay_.reset(new Replay(settings_.venue, member_.name()));
-    }
-    followMarket();
-}
-
-/// Says what is wrong with the venue, once while that lasts.
-void Member::sayOfVenue(const std::string &why) {
-    if (saidOfVenue_ != why) say(member_.name(), "the venue: " + why);
-    saidOfVenue_ = why;
-}
-
-void Member::dropLink(const std::string &why) {
-    sayOfVenue(why);
-    state_ = State::WaitsForVenue;
-    isKeptWaiting_ = false;
-    link_.end();
-    turnBack();
-    wantsReplay_ = false;
-    trader_.venueLost();
-    connectAt_ = Clock::now() + AGAIN;
-}
-
-/// Reads all that the venue has told, before more is read of the member.
-void Member::readLink() {
-    if (link_.state() == VenueLink::State::Down) return;
-    const bool wasUp = link_.state() == VenueLink::State::Up;
-    const auto take = [this](const Fields &message) { trader_.heard(message); };
-    bool stands = link_.state() == VenueLink::State::Connecting ? link_.flush() : link_.read(take);
-    for (int looks = 1; stands && link_.hasMore() && !trader_.holdsTooMuch() && looks < MOST_LINK_LOOKS; looks++)
-        stands = link_.read(take);
-    if (!stands) {
-        dropLink(link_.why());
-        return;
-    }
-    if (wasUp || link_.state() != VenueLink::State::Up) return;
-    if (isKeptWaiting_)
-        say(member_.name(),
-            "the venue: it takes the Logon at last: where another client held its port, this edge goes on in its place");
-    isKeptWaiting_ = false;
-    state_ = State::ReadsJournal;
-    trader_.beginRecovery();
-    books_.clear();
-    follower_.reset();
-    if (marketsTurn_) marketsTurn_->giveBack();
-    wantsReplay_ = true;
-}
-
-void Member::readJournal() {
-    if (!replay_ || isTellingAgain()) return;  // What the journal tells comes behind that.
-    const Replay::Told seen = [this](const char *line, std::size_t size) { this->seen(line, size); };
-    const bool isWhole = replay_->read([this](const char *line, std::size_t size) { trader_.recovered(line, size); },
-                                       needsMarket() ? seen : nullptr);
-    if (!isWhole) return;
-    turnBack();
-    books_.settle();
-    trader_.endRecovery([this](int desk) { return session(desk).isOn(); });
-    endOrders();
-    state_ = State::Serves;
-    setResting(false);
-    saidOfVenue_.clear();
-    saidOfFault_.clear();
-    const std::string outside = outsideOf(settings_.hours, std::time(nullptr));
-    say(member_.name(), "serves, behind report " + std::to_string(trader_.counts().lastReport) +
-                            (outside.empty() ? "" : ", " + outside));
-}
-
-/// Lets what the venue tells all members come, where this one needs that. First the journal is read once more: other
-/// members wait for that, until something of it has come.
-void Member::followMarket() {
-    if (!needsMarket() || !trader_.isReady() || follower_ || Clock::now() < followAt_ || !marketsTurn_->tryTake())
-        return;
-    try {
-        follower_.reset(new Replay(settings_.venue, member_.name(), books_.commands()));
-        books_.beginAnew();
-    } catch (const std::runtime_error &fault) {
-        loseMarket(fault.what());
-    }
-}
-
-/// Begins anew soon: until then what is known of the market is what was told last.
-void Member::loseMarket(const std::string &why) {
-    say(member_.name(), "the market isn't followed, and that begins anew: " + why);
-    follower_.reset();
-    marketsTurn_->giveBack();
-    books_.drop();
-    followAt_ = Clock::now() + REST;
-}
-
-/// A line of what the venue tells all members.
-void Member::seen(const char *line, std::size_t size) {
-    trader_.seen(line, size);
-    books_.take(line, size);
-}
-
-/// Reads what the venue has told all members since.
-void Member::readMarket() {
-    if (!follower_) return;
-    std::string why = "venue-events ended";
-    try {
-        for (int looks = 0; looks < MOST_MARKET_LOOKS && (follower_->isOver() || isReadable(follower_->fd())); looks++)
-            if (follower_->read([](const char *, std::size_t) {},
-                                [this](const char *line, std::size_t size) { seen(line, size); }))
-                throw std::runtime_error(why);
-        settleAt_ = Clock::now() + WHOLE;
-        return;
-    } catch (const std::runtime_error &fault) {
-        why = fault.what();
-    }
-    loseMarket(why);
-}
-
-/// Whether all has come of the last command: what tells it has written nothing for a while, and its last line is whole.
-bool Member::isCommandWhole() const {
-    const bool comesMore = follower_ && (follower_->isWithinLine() || isReadable(follower_->fd()));
-    return Clock::now() >= settleAt_ && !comesMore;
-}
-
-/// Whether the books are those of the market now: they are followed, and no report to the member is far ahead of them.
-/// A member that is told something all the time is always a little ahead, so one report after another is looked for.
-bool Member::isMarketThere() {
-    if (books_.outputs() >= lateFor_) {
-        lateFor_ = trader_.counts().lastReport;
-        lateAt_ = Clock::now() + LATE;
-    }
-    return follower_ && !books_.isOld() && Clock::now() < lateAt_;
+    if (first().owes()) return copies_.front().hasDisk(true) ? std::chrono::milliseconds(0) : AGAIN / 4;
+    auto pause = TICK;
+    for (const Copies &it : copies_) pause = it.pause(pause, mayTellCopies());
+    return pause;
 }
 
 void Member::answer() {
-    if (!books_.isSettled() && isCommandWhole()) books_.settle();
-    if (follower_ && books_.hasCome()) marketsTurn_->giveBack();
-    const bool isMarketThere = this->isMarketThere();
-    for (MemberSession &it : sessions_) it.answer(isMarketThere);
+    for (Venue &it : venues_) it.lookAtMarket();
+    for (MemberSession &it : sessions_) it.answer(books_.isAnyThere());
 }
 
 /// How long of this time it may be until a client is to be told something.
 std::chrono::milliseconds Member::answersPause(std::chrono::milliseconds most) {
+    for (Venue &it : venues_) it.noteMarket();
     for (MemberSession &it : sessions_)
-        if (it.mayAnswer()) most = it.answersPause(most, books_.isSettled(), isMarketThere());
+        if (it.mayAnswer()) most = it.answersPause(most, books_.isSettled(), books_.isAnyThere());
     return most;
 }
 
@@ -536,17 +412,13 @@ void Member::tick() {
     if (Clock::now() < tickAt_) return;
     tickAt_ = Clock::now() + TICK;
     for (MemberSession &it : sessions_) it.tick();
-    const std::string waits = link_.waitsFor();
-    if (!waits.empty()) sayOfVenue(waits);
-    isKeptWaiting_ = isKeptWaiting_ || !waits.empty();
-    trader_.tidy();
+    for (Venue &it : venues_) it.tick();
     sayCounts();
 }
 
 /// Writes to both sides what there is, and ends what has to end.
 void Member::flush() {
-    const bool isDown = link_.state() == VenueLink::State::Down;
-    if (isDown ? trader_.isReady() : link_.isWriting() && !link_.flush()) dropLink(link_.why());
+    for (Venue &it : venues_) it.flush();
     for (MemberSession &it : sessions_) it.flush();
 }
 

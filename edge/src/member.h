@@ -1,7 +1,7 @@
 #pragma once
 
-// A member's thread, which does one turn after another. A turn reads what venue_link.h and conversation.h have, commits
-// what came of that by record.h, and only then lets both write.
+// A member's thread, which does one turn after another. A turn reads what venue.h and conversation.h have, commits what
+// came of that by record.h, and only then lets both write.
 
 #include <atomic>
 #include <chrono>
@@ -15,28 +15,25 @@
 
 #include <poll.h>
 
-#include "books.h"
 #include "commands.h"
 #include "copies.h"
 #include "descriptor.h"
 #include "operators.h"
 #include "member_session.h"
-#include "names.h"
-#include "replay.h"
 #include "replay_turn.h"
+#include "serving.h"
 #include "settings.h"
-#include "trader.h"
-#include "venue_link.h"
+#include "shared.h"
+#include "shelf.h"
+#include "traders.h"
+#include "venue.h"
 
 namespace edge {
 
-/// A member: the sessions of its desks, its connection to the venue, and the one thread that does all for these. The
-/// thread never waits for a client, for the venue or for the journal alone.
-class Member : private Turning {
+/// A member: the sessions of its desks, its connections to its venues, and the one thread that does all for these. The
+/// thread never waits for a client, for a venue or for a journal alone.
+class Member : private Turning, private Hosting {
 public:
-    /// How far it is with what its own client needs to log on.
-    enum class State { WaitsForVenue, ReadsJournal, TellsAgain, Serves, IsNotServed };
-
     Member(const Settings &settings, Record &record);
     ~Member() override;
 
@@ -60,13 +57,16 @@ public:
 
     const MemberSettings &settings() const { return member_; }
     const std::list<MemberSession> &sessions() const { return sessions_; }
-    const Counts &counts() const { return trader_.counts(); }
-    const Switches &switches() const { return trader_.switches(); }
-    Money openValue() const { return trader_.exposure().shownValue(); }
-    long refusalsBy(Limit limit) const { return trader_.refusalsBy(limit); }
-    const Copies *copies() const { return copies_.get(); }
+    CountsOfAll counts() const { return traders_.counts(); }
+    const Switches &switches() const { return traders_.switches(); }
+    Money openValue() const { return traders_.openValue(); }
+    long refusalsBy(Limit limit) const { return traders_.refusalsBy(limit); }
+    const std::list<Venue> &venues() const { return venues_; }
+    const std::list<Copies> &copies() const { return copies_; }
     const Schedule &hours() const { return settings_.hours; }
-    State state() const { return state_; }
+
+    /// It serves where one of its venues does.
+    Serving state() const;
 
 private:
     using Clock = std::chrono::steady_clock;
@@ -74,6 +74,10 @@ private:
     void wake() override;
     void keep() override;
     bool isStoreRead() const override { return isStoreRead_; }
+    bool hasClient(int desk) override { return session(desk).isOn(); }
+    void endOrdersOf(Trader &trader) override;
+    bool isTellingAgain() const override;
+    void serves() override;
 
     MemberSession &first() { return sessions_.front(); }
     bool isAnyOn() const;
@@ -86,34 +90,19 @@ private:
     bool isAsked(Asked &it);
     std::chrono::milliseconds longestPause();
     void wait();
-    void note(const std::vector<pollfd> &all, bool isReadingOver);
+    void note(const std::vector<pollfd> &all);
     void endClients(const std::string &why);
     void setResting(bool rests);
     void drive();
-    void driveLink();
     void driveCopies();
-    void readLink();
-    void readJournal();
-    void followMarket();
-    void readMarket();
-    void loseMarket(const std::string &why);
-    void seen(const char *line, std::size_t size);
-    bool needsMarket() const { return trader_.needsMarket() || isMarketOpen_; }
-    bool isCommandWhole() const;
-    bool isMarketThere();
     void answer();
-    bool isTellingAgain() const;
     void tellAgain();
     bool mayTellCopies() const;
     void tellCopies();
     std::chrono::milliseconds copiesPause();
     std::chrono::milliseconds answersPause(std::chrono::milliseconds most);
-    void sayOfVenue(const std::string &why);
-    void dropLink(const std::string &why);
     void flush();
     void tick();
-    void turnBack();
-    bool wantsTurn() const;
     void restAfter(const std::string &why);
     bool rests() const;
     bool maySettle() const;
@@ -121,38 +110,26 @@ private:
 
     const Settings &settings_;
     const MemberSettings &member_;
-    const bool isMarketOpen_;  // To one of the desks.
     Record &record_;
-    Names names_;
-    ReplayTurn turn_;
-    VenueLink link_;
-    Trader trader_;
-    Books books_;
-    const std::unique_ptr<ReplayTurn> marketsTurn_;  // Of what tells the market: by that nobody is served later.
-    std::list<MemberSession> sessions_;              // By the numbers of their desks.
+    Shared shared_;
+    Traders traders_;
+    Shelf books_;
+    std::list<Venue> venues_;            // By their places among the settings.
+    std::list<MemberSession> sessions_;  // By the numbers of their desks.
     Operators operators_;
 
     Descriptor bell_;
     std::mutex mutex_;  // Of what is handed over.
     std::deque<Asked> asked_;
     std::atomic<bool> isStopping_{false};
-    std::atomic<State> state_{State::WaitsForVenue};
+    std::atomic<Serving> state_{Serving::WaitsForVenue};  // Of a session of copies.
 
-    std::string saidOfVenue_, saidOfFault_;      // What is said isn't said again while it lasts.
-    std::unique_ptr<Replay> replay_, follower_;  // Of what the journal has, and of what comes into it.
-    const std::unique_ptr<Copies> copies_;       // Of a session that is sent these, and has no link to the venue.
-    bool wantsReplay_ = false;
-    Clock::time_point connectAt_, tickAt_, restsUntil_, followAt_;
-    Clock::time_point settleAt_;  // Then nothing more comes of the last command that all were told.
-    Clock::time_point lateAt_;    // Then the books are too far behind a report,
-    long lateFor_ = 0;            // which is this one.
-    bool hasLink_ = false, hasJournal_ = false, hasMarket_ = false;  // Something to be read.
-    bool isKeptWaiting_ = false;                                     // By another client at the venue's port.
+    std::string saidOfFault_;      // What is said isn't said again while it lasts.
+    std::list<ReplayTurn> turns_;  // Those of copies.
+    std::list<Copies> copies_;     // Of a session that is sent these, and has no link to a venue: of each venue.
+    Clock::time_point connectAt_, tickAt_, restsUntil_;
     bool isStoreRead_ = true;  // Or it has to be read anew, before anything else is done.
     std::thread thread_;
 };
-
-/// A state in words.
-const char *wordsOf(Member::State state);
 
 }

@@ -19,22 +19,22 @@ constexpr std::chrono::milliseconds WHOLE(10);  // Behind the last line of a com
 
 }
 
-MemberSession::MemberSession(const Settings &settings, Record &record, Names &names, const VenueLink &link,
-                             Trader &trader, const Books &books, Turning &thread)
+MemberSession::MemberSession(const Settings &settings, Record &record, Traders &traders, const Shelf &books,
+                             Turning &thread)
     : member_(settings.member),
-      trader_(trader),
+      traders_(traders),
       thread_(thread),
       day_(settings.hours, settings.dayEnds, settings.member, record),
-      answers_(settings, record, names, trader, books),
-      logons_(settings.member, trader),
-      conversation_(settings.member, logons_, link, trader, day_, answers_),
+      answers_(settings, record, traders, books),
+      logons_(settings.member, traders),
+      conversation_(settings.member, logons_, traders, day_, answers_),
       numbering_(settings.member, record, conversation_, day_) {}
 
 void MemberSession::attach(FIX::Session &session, Store &store, Log &log) {
     session_ = &session;
     store_ = &store;
     log_ = &log;
-    trader_.attach(desk(), session, day_);
+    traders_.attach(desk(), session, day_);
     day_.attach(session, store);
     answers_.attach(session);
     conversation_.attach(session, store);
@@ -45,7 +45,7 @@ void MemberSession::attach(FIX::Session &session, Store &store, Log &log) {
 void MemberSession::asked(const FIX::Message &message) {
     const std::string &type = message.getHeader().getField(FIX::FIELD::MsgType);
     try {
-        if (!answers_.asked(type, message)) trader_.asked(desk(), message);
+        if (!answers_.asked(type, message)) traders_.asked(desk(), message);
     } catch (const std::exception &why) {
         fault_ = why.what();
     }
@@ -53,7 +53,7 @@ void MemberSession::asked(const FIX::Message &message) {
 
 void MemberSession::loggedOn() {
     isLoggedOn_ = true;
-    trader_.isBack(desk());
+    traders_.isBack(desk());
 }
 
 void MemberSession::hand(Descriptor socket, const std::string &bytes, const std::string &from) {
@@ -69,14 +69,14 @@ void MemberSession::hand(Descriptor socket, const std::string &bytes, const std:
 
 void MemberSession::readStore() {
     session_->refresh();
-    trader_.attach(desk(), *session_, day_);
+    traders_.attach(desk(), *session_, day_);
     day_.attach(*session_, *store_);
 }
 
 void MemberSession::lookAtDay() {
     if (!day_.isOver()) return;
     if (conversation_.isOn()) {
-        trader_.spare(desk());
+        traders_.spare(desk());
         conversation_.logOut("the day ends");
         endClient("its day ends");
         if (day_.owes()) return;
@@ -138,7 +138,7 @@ void MemberSession::endClient(const std::string &why) {
     if (thread_.isStoreRead()) day_.keep();
     conversation_.end();
     hasClient_ = false;
-    trader_.left(desk());
+    traders_.left(desk());
     conversation_.goUp();
 }
 
@@ -149,7 +149,7 @@ void MemberSession::drop() {
 }
 
 bool MemberSession::mayAnswer() {
-    return !answers_.isIdle() && conversation_.isOn() && trader_.isReady() && session_->isLoggedOn() &&
+    return !answers_.isIdle() && conversation_.isOn() && traders_.isReady() && session_->isLoggedOn() &&
            conversation_.goesOn() && hasRoomForAnswers() && conversation_.mayBeTold();
 }
 

@@ -14,18 +14,16 @@
 #include <vector>
 
 #include "answers.h"
-#include "books.h"
 #include "conversation.h"
 #include "day.h"
 #include "descriptor.h"
 #include "log.h"
 #include "logons.h"
-#include "names.h"
 #include "numbering.h"
 #include "settings.h"
+#include "shelf.h"
 #include "store.h"
-#include "trader.h"
-#include "venue_link.h"
+#include "traders.h"
 
 namespace edge {
 
@@ -48,8 +46,7 @@ public:
 /// itself. The member's thread alone uses it, but for what is said to be of any thread.
 class MemberSession {
 public:
-    MemberSession(const Settings &settings, Record &record, Names &names, const VenueLink &link, Trader &trader,
-                  const Books &books, Turning &thread);
+    MemberSession(const Settings &settings, Record &record, Traders &traders, const Shelf &books, Turning &thread);
 
     /// Gives it its session, and the store and log of that, before the thread starts.
     void attach(FIX::Session &session, Store &store, Log &log);
@@ -79,8 +76,8 @@ public:
     bool owes() const { return day_.owes(); }
     void tellOwed() { day_.tellOwed(); }
 
-    /// The end of a day that what is Day is to end by now, as FIX writes it, or nothing.
-    std::string endOfOrders() { return day_.endOfOrders(); }
+    /// The end of a day that what is Day is to end by now at a venue, as FIX writes it, or nothing.
+    std::string endOfOrders(VenueRecord &venue) { return day_.endOfOrders(venue); }
 
     /// What poll is to look for at its client, how long of this time that may be, and what has come.
     pollfd watched() { return conversation_.watched(); }
@@ -151,7 +148,7 @@ private:
     void endWhere(const std::string &why);
 
     const MemberSettings &member_;
-    Trader &trader_;
+    Traders &traders_;
     Turning &thread_;
     Day day_;
     Answers answers_;

@@ -28,6 +28,7 @@ void NameAsker::ask(long from, long greatest) {
     Command command;
     command.kind = Command::Kind::Names;
     command.from = from_ = from;
+    command.venue = venue_;
     greatest_ = greatest;
     const std::string line = member_.name + " " + command.words() + "\n";
     bytes_.clear();

@@ -22,7 +22,8 @@ class NameAsker : public NameBook {
 public:
     static constexpr std::size_t MOST_NAMES = 8192;
 
-    explicit NameAsker(const CopiedMember &member) : member_(member) {}
+    /// Of a member's requests at the venue of this letter; empty: the member has one venue.
+    explicit NameAsker(const CopiedMember &member, const std::string &venue = "") : member_(member), venue_(venue) {}
 
     /// Wants the names from this number on, up to the greatest one that the journal is known to have.
     void ask(long from, long greatest);
@@ -64,6 +65,7 @@ private:
     void refuse(const std::string &compId);
 
     const CopiedMember member_;
+    const std::string venue_;
     Descriptor socket_;
     std::string bytes_, away_;
     std::string saidOfOther_;  // What is said isn't said again while it lasts.

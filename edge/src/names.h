@@ -7,7 +7,7 @@
 #include <string>
 #include <vector>
 
-#include "record.h"
+#include "venue_record.h"
 
 namespace edge {
 
@@ -52,9 +52,10 @@ struct KeptSweep {
     std::string text;
 };
 
-/// The names that a member gives its requests (ClOrdID), and the rising numbers that the venue knows them by. They are
+/// The names that a member gives its requests (ClOrdID), and the rising numbers that a venue knows them by. They are
 /// kept in the member's record, so a name is committed before its request is sent. Each desk of the member has names of
-/// its own, and each number is of one desk. What fails is a DatabaseFault.
+/// its own, and each number is of one desk. Of a member with several venues each venue has numbers of its own, and a
+/// name that came to one of them has come to all. What fails is a DatabaseFault.
 class Names : public NameBook {
 public:
     enum class Kind : char {
@@ -72,13 +73,28 @@ public:
 
     static constexpr long GREATEST = 999999999999999;  // The venue takes no greater number.
 
-    explicit Names(Record &record);
+    /// Of a venue, by its place among those of the settings and by its letter; empty: the member has one venue.
+    explicit Names(Record &record, std::size_t venue = 0, const std::string &letter = "");
+
+    /// A number as it stands in names that the edge itself gives: with the letter of its venue in front, but for the
+    /// first one that the record has had.
+    std::string ownWord(long number) const;
 
     /// Keeps this name of a desk, and gives its number.
     long add(const std::string &name, Kind kind, int desk = FIRST_DESK);
 
-    /// Keeps that the edge refused a request of this name, which isn't known yet.
-    void refuse(const std::string &name, int desk) { add(name, Kind::Refused, desk); }
+    /// Keeps that the edge refused a request of this name, which isn't known yet. While the venue isn't there, a number
+    /// in its row may come to be one of the journal's: then that stands beside the venue's numbers.
+    void refuse(const std::string &name, int desk) { keep(name, Kind::Refused, desk); }
+
+    /// Keeps a row that the venue never gets a number of: its place among the numbers, as of what is refused.
+    long keep(const std::string &name, Kind kind, int desk) {
+        return isBeside() ? addBeside(name, kind, desk) : add(name, kind, desk);
+    }
+
+    /// Whether such rows stand beside the venue's numbers now: its journal hasn't been read since the venue came.
+    bool isBeside() const { return !letter_.empty() && !isVenueThere_; }
+    void venueIsThere(bool isThere) { isVenueThere_ = isThere; }
 
     /// Keeps that no report of this request will come, and that its member was told.
     void strike(long number);
@@ -100,6 +116,12 @@ public:
 
     /// Whether a request of this name of a desk came before: one that went to the venue, or one that the edge refused.
     bool isKnown(const std::string &name, int desk);
+
+    /// Whether the edge refused a request of this name, at whichever venue.
+    bool wasRefused(const std::string &name, int desk) { return find(name, desk).wasRefused; }
+
+    /// Whether a number of this venue that has no name goes by this one.
+    bool isNameless(const std::string &name) { return own_.state().first > 1 && findNameless(name).number; }
 
     /// Notes that a report answers it.
     void answered(long number);
@@ -132,7 +154,12 @@ public:
     std::vector<KeptSweep> sweeps();
     void forget(long number);
 
-    long last() const { return record_.state().last; }
+    long last() const { return own_.state().last; }
+
+    /// What the record has of the venue.
+    const VenueState &state() const { return own_.state(); }
+    VenueState &change() { return own_.change(); }
+    VenueRecord &own() { return own_; }
 
     /// Drops some names of requests that are finished and of before the last day of the session; `rests` says which
     /// orders aren't finished. It is called again and again, and does little each time.
@@ -140,12 +167,14 @@ public:
 
 private:
     struct Found {
-        long number = 0;  // 0: the name isn't here.
-        bool wasRefused = false;
+        long number = 0;                               // Of this venue; 0: the name isn't here.
+        bool wasRefused = false, isElsewhere = false;  // The second one: it came to another venue.
     };
 
+    long addBeside(const std::string &name, Kind kind, int desk);
     Found find(const std::string &name, int desk);
     Found findNameless(const std::string &name);
+    Found foundAt(long place, char kind) const;
     bool isThere(long number);
     std::string wordOf(long number) const;
     std::string keptOf(long number);
@@ -163,10 +192,14 @@ private:
     Recent &recentOf(long number);
 
     Record &record_;
+    VenueRecord own_;
+    const std::string letter_;
     std::vector<Recent> recent_{RECENT};
     long recentClosing_ = 0;  // Behind this one of the record they were written.
     long droppedTo_ = 0;
-    Statement strike_, byNumber_, byName_, unanswered_, from_, range_, drop_, sweeps_;
+    bool isVenueThere_ = false;
+    long beside_ = 0, besideClosing_ = 0;  // The greatest number beside those of the venue, and when it was looked for.
+    Statement strike_, byNumber_, byName_, unanswered_, from_, range_, drop_, sweeps_, greatest_;
 };
 
 }

@@ -15,10 +15,11 @@ constexpr int LINES = 1000;  // In a second: none of what operators did is left 
 const char *const UNCHANGED = ": nothing was changed";
 
 /// The orders of a sweep that the venue has answered for.
-std::string cancelled(const Sweep &it) {
-    if (!it.count) return "no order rested";
-    if (it.count == 1) return "the venue has answered the cancel of 1 order";
-    return "the venue has answered the cancels of " + std::to_string(it.count) + " orders";
+std::string cancelled(const Sweeps &it) {
+    const std::size_t count = it.count();
+    if (!count) return "no order rested";
+    if (count == 1) return "the venue has answered the cancel of 1 order";
+    return "the venue has answered the cancels of " + std::to_string(count) + " orders";
 }
 
 }
@@ -40,7 +41,7 @@ void Operators::take(Asked asked) {
 }
 
 void Operators::act(Entry &it) {
-    Switches &switches = trader_.switches();
+    Switches &switches = traders_.switches();
     const Command &command = it.asked.command;
     if (!command.symbol.empty() && !switches.knows(command.symbol))
         throw Refused(0, command.symbol + " isn't a symbol of the venue");
@@ -66,7 +67,7 @@ void Operators::act(Entry &it) {
             break;
         case Command::Kind::Numbers: it.what = numbersOf(command.desk); break;
         case Command::Kind::SetNumbers: it.what = numberingOf(command.desk).set(command.out, command.in); break;
-        case Command::Kind::Names: it.what = trader_.namesFrom(command.from); break;
+        case Command::Kind::Names: it.what = namesOf(command); break;
         case Command::Kind::Status: break;  // The page's words are the answer to that.
     }
 }
@@ -89,27 +90,34 @@ std::string Operators::numbersOf(int desk) {
     return words;
 }
 
+/// The names of requests at a venue.
+std::string Operators::namesOf(const Command &command) {
+    Trader *const trader = traders_.ofLetter(command.venue);
+    if (!trader) throw Refused(0, "it has no venue " + command.venue);
+    return trader->namesFrom(command.from);
+}
+
 /// Cancels what rests, and stops the member before that where this is asked for.
 void Operators::cancel(Entry &it) {
-    if (!trader_.isReady()) throw Refused(0, "the venue isn't there");
-    it.sweep = trader_.cancelEach();
+    if (!traders_.isReady()) throw Refused(0, "the venue isn't there");
+    it.sweep = traders_.cancelEach();
     if (it.asked.command.kind == Command::Kind::Stop) {
-        trader_.switches().stop(it.asked.who);
+        traders_.switches().stop(it.asked.who);
         it.what = "stopped, and ";
     }
-    it.isOver = it.isDone = trader_.isOver(it.sweep);
+    it.isOver = it.isDone = traders_.isOver(it.sweep);
     if (it.isOver) it.what += cancelled(it.sweep);
 }
 
 void Operators::look() {
     for (Entry &it : entries_) {
         if (it.isOver) continue;
-        it.isDone = trader_.isOver(it.sweep);
+        it.isDone = traders_.isOver(it.sweep);
         it.isOver = it.isDone || Clock::now() >= it.asked.until;
         if (it.isDone) it.what += cancelled(it.sweep);
         else if (it.isOver)
             it.what += "the venue hasn't answered all cancels within " + std::to_string(MOST_WAIT) + " s; " +
-                       trader_.restsOf(it.sweep);
+                       traders_.restsOf(it.sweep);
     }
 }
 
@@ -134,7 +142,7 @@ void Operators::refuse(const Asked &asked, const std::string &why) {
 }
 
 void Operators::end() {
-    for (const Entry &it : entries_) tell(it.asked, false, it.what + "the edge stops; " + trader_.restsOf(it.sweep));
+    for (const Entry &it : entries_) tell(it.asked, false, it.what + "the edge stops; " + traders_.restsOf(it.sweep));
     entries_.clear();
 }
 

@@ -1,6 +1,6 @@
 #pragma once
 
-// What operators ask of a member, on the member's own thread: control.h hands commands in, trader.h carries them out,
+// What operators ask of a member, on the member's own thread: control.h hands commands in, traders.h carries them out,
 // and each is told its outcome behind the commit of the turn in which that is known.
 
 #include <list>
@@ -9,7 +9,7 @@
 #include "commands.h"
 #include "member_session.h"
 #include "settings.h"
-#include "trader.h"
+#include "traders.h"
 
 namespace edge {
 
@@ -17,8 +17,8 @@ namespace edge {
 /// venue has answered the cancels. Each that changes something has a line that says who, when, what, and the outcome.
 class Operators {
 public:
-    Operators(const MemberSettings &member, Trader &trader, std::list<MemberSession> &sessions)
-        : member_(member.name()), takesOrders_(!member.isOfCopies()), trader_(trader), sessions_(sessions) {}
+    Operators(const MemberSettings &member, Traders &traders, std::list<MemberSession> &sessions)
+        : member_(member.name()), takesOrders_(!member.isOfCopies()), traders_(traders), sessions_(sessions) {}
 
     /// Gives it the log of the first session.
     void attach(Log &log) { log_ = &log; }
@@ -45,7 +45,7 @@ private:
     struct Entry {
         Asked asked;
         std::string what;  // What was done at once, in words.
-        Sweep sweep;
+        Sweeps sweep;
         bool isKept = false, isOver = false, isDone = false;
     };
 
@@ -53,11 +53,12 @@ private:
     void cancel(Entry &it);
     Numbering &numberingOf(int desk);
     std::string numbersOf(int desk);
+    std::string namesOf(const Command &command);
     void tell(const Asked &asked, bool isDone, const std::string &what);
 
     const std::string member_;
     const bool takesOrders_;
-    Trader &trader_;
+    Traders &traders_;
     std::list<MemberSession> &sessions_;
     Log *log_ = nullptr;
     std::list<Entry> entries_;

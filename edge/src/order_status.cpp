@@ -21,6 +21,7 @@ namespace FIELD = FIX::FIELD;
 constexpr int UNKNOWN_ORDER = 5, OTHER = 99;   // Reasons of 103.
 constexpr std::size_t BYTES_FOR_ORDER = 1024;  // So many may wait for a client for each order of one answer.
 constexpr std::size_t LONGEST_NAME = 64;
+const char *const NONE = "NONE";                                         // The OrderID of no order.
 constexpr char PENDING_NEW = 'A', EXPIRED = 'C', PENDING_REPLACE = 'E';  // States of 39.
 
 /// Whether an order is one that a question asks for, by the symbol and the side that this has.
@@ -47,9 +48,11 @@ void OrderStatus::asked(const Message &message) {
     const int name = isOfOne ? FIELD::ClOrdID : FIELD::MassStatusReqID;
     const std::string fault = nameFaultOf(message, isOfOne);
     if (!fault.empty()) return refuse(message, name, OTHER_REASON, fault);
-    if (!trader_.isReady()) return refuse(message, name, NOT_AVAILABLE, "the venue isn't there");
-    if (!trader_.knowsAll())
-        return refuse(message, name, NOT_AVAILABLE, "the venue hasn't said what it has taken of before");
+    for (const Trader *const it : venuesFor(message, isOfOne)) {
+        if (!it->isReady()) return refuse(message, name, NOT_AVAILABLE, "the venue isn't there");
+        if (!it->knowsAll())
+            return refuse(message, name, NOT_AVAILABLE, "the venue hasn't said what it has taken of before");
+    }
     const std::set<int> &dropped = member_.limits.dropped;
     const int other =
         isOfOne
@@ -59,6 +62,13 @@ void OrderStatus::asked(const Message &message) {
         return refuse(message, name, OTHER_REASON, "field " + std::to_string(other) + " isn't one of this venue");
     if (isOfOne) askedOne(message);
     else askedMany(message);
+}
+
+/// The venues that a question is about: that of its symbol, or all.
+OrderStatus::Those OrderStatus::venuesFor(const Message &asked, bool isOfOne) const {
+    const std::string symbol = textOf(asked, FIELD::Symbol);
+    if (isOfOne || !symbol.empty()) return {&traders_.of(symbol)};
+    return traders_.all();
 }
 
 /// What is wrong with the names of a question, or nothing. An order's own name may be one that the edge has given it.
@@ -78,13 +88,13 @@ std::string OrderStatus::priceOf(const std::string &symbol, long steps) const {
 }
 
 /// How an order is that rests, or has ended. One that its day has ended is told as its member was told that.
-Message OrderStatus::statusOf(long number, const OpenOrder &order) const {
-    const bool isExpired = order.status == '4' && names_.is(order.endedBy, Names::Kind::Expiry);
+Message OrderStatus::statusOf(const Place &at, const OpenOrder &order) const {
+    const bool isExpired = order.status == '4' && at.trader->names().is(order.endedBy, Names::Kind::Expiry);
     Message it = made("8");
     it.setField(FIELD::AvgPx, priceOf(order.symbol, order.average));
-    it.setField(FIELD::ClOrdID, names_.nameOf(number));
+    it.setField(FIELD::ClOrdID, at.trader->names().nameOf(at.number));
     it.setField(FIELD::CumQty, std::to_string(order.filled));
-    it.setField(FIELD::OrderID, order.orderId);
+    it.setField(FIELD::OrderID, (order.orderId == NONE ? "" : at.trader->venue().letter) + order.orderId);
     it.setField(FIELD::OrderQty, std::to_string(order.quantity));
     it.setField(FIELD::OrdStatus, std::string(1, isExpired ? EXPIRED : order.status));
     if (order.price) it.setField(FIELD::Price, priceOf(order.symbol, order.price));
@@ -96,29 +106,32 @@ Message OrderStatus::statusOf(long number, const OpenOrder &order) const {
 }
 
 /// How an order is that the venue hasn't answered, or one whose replace it hasn't.
-Message OrderStatus::statusOf(long number, const Request &underWay) const {
-    const OpenOrder *const replaced = trader_.open().find(names_.numberOf(underWay.original, underWay.desk));
-    OpenOrder it{"NONE", underWay.symbol, underWay.side, false, ""};
+Message OrderStatus::statusOf(const Place &at, const Request &underWay) const {
+    const OpenOrder *const replaced =
+        at.trader->open().find(at.trader->names().numberOf(underWay.original, underWay.desk));
+    OpenOrder it{NONE, underWay.symbol, underWay.side, false, ""};
     if (replaced) it = *replaced;
     it.price = underWay.price;
     it.quantity = underWay.quantity;
     it.status = '0';
-    Message told = statusOf(number, it);
+    Message told = statusOf(at, it);
     told.setField(FIELD::OrdStatus, std::string(1, underWay.isOrder() ? PENDING_NEW : PENDING_REPLACE));
     if (!underWay.isOrder()) told.setField(FIELD::OrigClOrdID, underWay.original);
     return told;
 }
 
-bool OrderStatus::isKnown(long number) const {
-    const auto underWay = trader_.underWay().find(number);
-    return trader_.open().find(number) || trader_.open().findEnded(number) ||
-           (underWay != trader_.underWay().end() && underWay->second.mayRest());
+bool OrderStatus::isKnown(const Place &at) {
+    const Trader &trader = *at.trader;
+    const auto underWay = trader.underWay().find(at.number);
+    return trader.open().find(at.number) || trader.open().findEnded(at.number) ||
+           (underWay != trader.underWay().end() && underWay->second.mayRest());
 }
 
-Message OrderStatus::statusOf(long number) const {
-    const OpenOrder *order = trader_.open().find(number);
-    if (!order) order = trader_.open().findEnded(number);
-    Message told = order ? statusOf(number, *order) : statusOf(number, trader_.underWay().at(number));
+Message OrderStatus::statusOf(const Place &at) const {
+    const Trader &trader = *at.trader;
+    const OpenOrder *order = trader.open().find(at.number);
+    if (!order) order = trader.open().findEnded(at.number);
+    Message told = order ? statusOf(at, *order) : statusOf(at, trader.underWay().at(at.number));
     told.setField(FIELD::ExecID, "0");
     told.setField(FIELD::ExecType, "I");
     told.setField(FIELD::TransactTime, timeNow());
@@ -129,7 +142,7 @@ Message OrderStatus::statusOf(long number) const {
 Message OrderStatus::noneOf(const Message &asked, int reason, const std::string &why) const {
     Message told = made("8");
     for (const int tag : {FIELD::ClOrdID, FIELD::OrdStatusReqID, FIELD::MassStatusReqID}) copy(asked, told, tag);
-    told.setField(FIELD::OrderID, "NONE");
+    told.setField(FIELD::OrderID, NONE);
     told.setField(FIELD::ExecID, "0");
     told.setField(FIELD::ExecType, "I");
     told.setField(FIELD::OrdStatus, "8");
@@ -145,13 +158,15 @@ Message OrderStatus::noneOf(const Message &asked, int reason, const std::string 
 
 void OrderStatus::askedOne(const Message &message) {
     const std::string name = textOf(message, FIELD::ClOrdID);
-    const long number = names_.numberOf(name, member_.desk);
-    const auto underWay = trader_.underWay().find(number);
-    if (isKnown(number)) return tellOne(message, number);
-    if (underWay != trader_.underWay().end())
+    const Trader &trader = traders_.of(textOf(message, FIELD::Symbol));
+    Names &names = trader.names();
+    const long number = names.numberOf(name, member_.desk);
+    const auto underWay = trader.underWay().find(number);
+    if (isKnown({&trader, number})) return tellOne(message, {&trader, number});
+    if (underWay != trader.underWay().end())
         return refuse(message, FIELD::ClOrdID, OTHER_REASON,
                       "the name is of a cancel, which the venue hasn't answered");
-    if (names_.is(number, Names::Kind::Request) || names_.is(number, Names::Kind::GoodTillCancel))
+    if (names.is(number, Names::Kind::Request) || names.is(number, Names::Kind::GoodTillCancel))
         return refuse(message, FIELD::ClOrdID, OTHER_REASON,
                       "no order of this name rests, and how it ended isn't known here any more, or the name is of a "
                       "cancel or a replace");
@@ -162,8 +177,8 @@ void OrderStatus::askedOne(const Message &message) {
 }
 
 /// Tells of an order that is known. An answer of another symbol or side would be of an order that isn't there.
-void OrderStatus::tellOne(const Message &asked, long number) const {
-    Message told = statusOf(number);
+void OrderStatus::tellOne(const Message &asked, const Place &at) const {
+    Message told = statusOf(at);
     if (!isAskedFor(asked, told.getField(FIELD::Symbol), told.getField(FIELD::Side)[0]))
         return refuse(asked, FIELD::ClOrdID, OTHER_REASON, "the order has another Symbol (55) or Side (54)");
     copy(asked, told, FIELD::OrdStatusReqID);
@@ -175,16 +190,18 @@ std::size_t OrderStatus::mostOrders() const {
 }
 
 /// The orders that a question about many asks for: those that rest, and those that the venue hasn't answered.
-OrderStatus::Numbers OrderStatus::numbersFor(const Message &many) const {
-    Numbers numbers;
-    for (const auto &it : trader_.open().all())
-        if (it.second.desk == member_.desk && isAskedFor(many, it.second.symbol, it.second.side))
-            numbers.push_back(it.first);
-    for (const auto &it : trader_.underWay())
-        if (it.second.desk == member_.desk && it.second.isOrder() && !trader_.open().find(it.first) &&
-            isAskedFor(many, it.second.symbol, it.second.side))
-            numbers.push_back(it.first);
-    return numbers;
+OrderStatus::Places OrderStatus::placesFor(const Message &many) const {
+    Places places;
+    for (const Trader *const trader : venuesFor(many, false)) {
+        for (const auto &it : trader->open().all())
+            if (it.second.desk == member_.desk && isAskedFor(many, it.second.symbol, it.second.side))
+                places.push_back({trader, it.first});
+        for (const auto &it : trader->underWay())
+            if (it.second.desk == member_.desk && it.second.isOrder() && !trader->open().find(it.first) &&
+                isAskedFor(many, it.second.symbol, it.second.side))
+                places.push_back({trader, it.first});
+    }
+    return places;
 }
 
 /// Why a question about many isn't answered, or nothing.
@@ -204,10 +221,10 @@ std::string OrderStatus::refusalOf(const Message &many) const {
 
 void OrderStatus::askedMany(const Message &message) {
     std::string why = refusalOf(message);
-    const Numbers numbers = why.empty() ? numbersFor(message) : Numbers();
-    if (why.empty() && numbers.empty()) why = "there is no such order";
-    if (numbers.size() > mostOrders())
-        why = std::to_string(numbers.size()) + " orders are more than one answer has, " + std::to_string(mostOrders()) +
+    const Places places = why.empty() ? placesFor(message) : Places();
+    if (why.empty() && places.empty()) why = "there is no such order";
+    if (places.size() > mostOrders())
+        why = std::to_string(places.size()) + " orders are more than one answer has, " + std::to_string(mostOrders()) +
               ": ask by Symbol (55) and Side (54)";
     if (!why.empty()) {
         Message told = noneOf(message, OTHER, why);
@@ -216,11 +233,11 @@ void OrderStatus::askedMany(const Message &message) {
         send(told);
         return;
     }
-    for (const long number : numbers) {
-        Message told = statusOf(number);
+    for (const Place &at : places) {
+        Message told = statusOf(at);
         copy(message, told, FIELD::MassStatusReqID);
-        told.setField(FIELD::TotNumReports, std::to_string(numbers.size()));
-        if (number == numbers.back()) told.setField(FIELD::LastRptRequested, "Y");
+        told.setField(FIELD::TotNumReports, std::to_string(places.size()));
+        if (&at == &places.back()) told.setField(FIELD::LastRptRequested, "Y");
         send(told);
     }
 }

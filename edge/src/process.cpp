@@ -1,13 +1,11 @@
 #include "process.h"
 
-#include <fcntl.h>
 #include <sched.h>
 #include <sys/syscall.h>
 #include <unistd.h>
 
 #include <csignal>
 #include <cstdint>
-#include <cstdlib>
 #include <ctime>
 #include <iterator>
 #include <list>
@@ -23,6 +21,7 @@
 #include "folders.h"
 #include "lines.h"
 #include "sessions.h"
+#include "starter.h"
 #include "status.h"
 #include "steps.h"
 #include "users.h"
@@ -63,15 +62,6 @@ sigset_t heldBack() {
     sigaddset(&signals, SIGINT);
     ::pthread_sigmask(SIG_BLOCK, &signals, nullptr);
     return signals;
-}
-
-/// Where the one who started this process waits to hear that it listens, if there is one. No child has it.
-Descriptor starter() {
-    const char *text = std::getenv(READY);
-    Descriptor it(text ? std::atoi(text) : -1);
-    ::unsetenv(READY);
-    if (it) ::fcntl(it.get(), F_SETFD, FD_CLOEXEC);
-    return it;
 }
 
 /// What the library has of the session of a desk.
@@ -119,10 +109,10 @@ public:
         member_.stop();
     }
 
-    void start(const Descriptor &starter) {
+    void start(Starter &starter) {
         for (DeskParts &it : desks_) it.door.start();
         say("", "ready");
-        if (starter && ::write(starter.get(), "r", 1) < 0) say("", "who started it doesn't listen: " + reason());
+        starter.tell();
         member_.start();
     }
 
@@ -135,7 +125,7 @@ private:
 
 void serveMember(const Settings &settings) {
     shortenSlices();
-    Descriptor whoStarted = starter();
+    Starter starter;
     const std::vector<Descriptor> locks = heldFolders(settings);
     keepSteps(settings);
     keepDesks(settings);
@@ -149,8 +139,7 @@ void serveMember(const Settings &settings) {
     if (!settings.member.isOfCopies()) names.reset(new Control(settings, member, Callers::Copies));
     {
         Running running(parts);
-        running.start(whoStarted);
-        whoStarted.reset();
+        running.start(starter);
         int signal;
         ::sigwait(&signals, &signal);
     }
@@ -164,7 +153,8 @@ std::string actAlone(const Settings &settings, const Command &command) {
         throw std::runtime_error(recordPath(settings) + " isn't there, so numbers begin with 1");
     becomeOwner(settings.folder);
     const std::vector<Descriptor> locks = heldFolders(settings);
-    keepSteps(settings);
+    const bool isOfVenues = !settings.venues.front().letter.empty();
+    if (!isOfVenues || !command.isQuestion()) keepSteps(settings);
     if (command.isQuestion()) needSameDesks(settings);
     else keepDesks(settings);
     Parts parts(settings);

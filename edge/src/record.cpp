@@ -20,8 +20,8 @@ namespace {
 constexpr long VERSION = 4;
 // Versions of before, whose records lack these.
 constexpr long WITHOUT_TURNS = 1, WITHOUT_SWITCHES = 2, WITHOUT_ENDS = 3;
-// The one of records of members that have had several desks: all others know nothing of these.
-constexpr long WITH_DESKS = 5;
+// Those of records of members that have had several desks, and several venues: all others know nothing of these.
+constexpr long WITH_DESKS = 5, WITH_VENUES = 6;
 
 // A turn has its names and messages in the bytes of one row, as turns.h reads them, and what they change of the state.
 const char *const TURNS =
@@ -51,6 +51,17 @@ const char *const TABLES =
 const char *const DESKS =
     "CREATE TABLE IF NOT EXISTS desks (desk INTEGER PRIMARY KEY, sender INTEGER NOT NULL, target INTEGER NOT NULL,"
     " created TEXT NOT NULL, heard INTEGER NOT NULL, spared INTEGER NOT NULL, doubtful INTEGER NOT NULL);";
+
+// The venues, by their places. What is kept of the one at place 0 is in the row of the first session; the names of the
+// others stand behind those of that one, as venue_record.h has it. Of a turn that changed one of these its numbers are
+// in the row of the turn.
+const char *const VENUES =
+    "CREATE TABLE IF NOT EXISTS venues (place INTEGER PRIMARY KEY, venue TEXT NOT NULL UNIQUE,"
+    " report INTEGER NOT NULL, reject INTEGER NOT NULL, first INTEGER NOT NULL, last INTEGER NOT NULL,"
+    " settled INTEGER NOT NULL, drop_before INTEGER NOT NULL, orders_ended INTEGER NOT NULL);";
+
+const char *const READ_VENUES =
+    "SELECT place, venue, report, reject, first, last, settled, drop_before, orders_ended FROM venues ORDER BY place";
 
 const char *const READ_DESKS = "SELECT desk, sender, target, created, heard, spared, doubtful FROM desks";
 
@@ -88,9 +99,17 @@ std::string bootOfSystem() {
 
 }
 
-Record::Record(const std::string &path, const std::string &member, const Before &before, const std::set<int> &desks)
-    : database_(path), member_(member), before_(before), desks_(desks) {
+Record::Record(const std::string &path, const std::string &member, const Before &before, const std::set<int> &desks,
+               const std::vector<std::string> &venues, const std::string &first)
+    : database_(path),
+      member_(member),
+      before_(before),
+      desks_(desks),
+      letters_(venues),
+      first_(first),
+      isUnread_(venues.size(), true) {
     for (const int desk : desks_) others_[desk];
+    forgetVenues();
 }
 
 /// Does this with each session that the record has, and its desk.
@@ -108,15 +127,16 @@ void Record::open() {
     database_.open();
     std::random_device chance;
     opening_ = std::uniform_int_distribution<long>(1, GREATEST_OPENING)(chance);
-    isUnread_ = true;
-    isOfThisRun_ = false;
+    isUnread_.assign(letters_.size(), true);
+    isOfThisRun_ = hasLetOn_ = hasBegunAnew_ = false;
     stepped_.clear();
     try {
         boot_ = bootOfSystem();
         Statement version(database_, "PRAGMA user_version");
         Rows rows = version.of();
         const long found = rows.next() ? rows.number(0) : 0;
-        const bool hasDesks = found == WITH_DESKS;
+        const bool hasDesks = found == WITH_DESKS || found == WITH_VENUES;
+        version_ = hasDesks ? found : VERSION;
         if (found && !hasDesks && found != VERSION && found != WITHOUT_TURNS && found != WITHOUT_SWITCHES &&
             found != WITHOUT_ENDS)
             database_.fail("it is of another version of the edge");
@@ -124,12 +144,15 @@ void Record::open() {
         if (found) look(changed, hasDesks);
         else make();
         addDesks();
+        addVenues();
     } catch (const DatabaseFault &) {
         close();
+        forgetVenues();  // Of which some may have been read.
         throw;
     }
     wasOpen_ = true;
-    toldBefore_ = state_.told;
+    opened_ = state_;
+    for (auto &it : venues_) it.second.before = it.second.now;
     eachSession([this](int desk, const SessionState &it) { sentBefore_[desk] = it.sender; });
 }
 
@@ -147,8 +170,51 @@ void Record::addDesks() {
                 FIX::UtcTimeStampConvertor::convert(it.now.created) + "', 1, 0, 0);";
     }
     if (rows.empty()) return;
+    version_ = std::max(version_, WITH_DESKS);
     changeTables();
-    database_.run(std::string(DESKS) + rows + "PRAGMA user_version = " + std::to_string(WITH_DESKS));
+    database_.run(std::string(DESKS) + rows + "PRAGMA user_version = " + std::to_string(version_));
+}
+
+/// The letters of all venues that the record has.
+std::string Record::venueWords() const {
+    std::string words = firstLetter_;
+    for (const auto &it : venues_) words += " " + it.second.letter;
+    return words;
+}
+
+/// Gives a venue of the settings its place in the record: the row of one that the record doesn't have, or nothing.
+std::string Record::placed(std::size_t venue) {
+    const std::string &letter = letters_[venue];
+    const auto known =
+        std::find_if(venues_.begin(), venues_.end(), [&letter](const auto &it) { return it.second.letter == letter; });
+    const bool isFirst = letter == firstLetter_, isKnown = known != venues_.end();
+    const long next = venues_.empty() ? 1 : venues_.rbegin()->first + 1;
+    const long place = places_[venue] = isFirst ? 0 : isKnown ? known->first : next;
+    if (isFirst || isKnown) return "";
+    venues_[place].letter = letter;
+    say(member_, "its requests at the venue " + letter + " begin with 1: the record knows nothing of this venue");
+    return "INSERT INTO venues VALUES (" + std::to_string(place) + ", '" + letter + "', 0, 0, 0, 0, 0, 0, 0);";
+}
+
+/// Finds the venues of the settings in the record. One without letters is of the first of them from then on.
+void Record::addVenues() {
+    const bool isNew = firstLetter_.empty();
+    if (letters_ == std::vector<std::string>{""}) {
+        if (isNew) return;
+        database_.fail("it is of the venues " + venueWords() +
+                       ", and settings without Venues don't say which they mean");
+    }
+    std::string rows;
+    if (isNew) {
+        firstLetter_ = first_;
+        venues_.clear();
+        rows = "INSERT INTO venues VALUES (0, '" + firstLetter_ + "', 0, 0, 0, 0, 0, 0, 0);";
+    }
+    for (std::size_t at = 0; at < letters_.size(); at++) rows += placed(at);
+    if (rows.empty()) return;
+    version_ = WITH_VENUES;
+    changeTables();
+    database_.run(std::string(DESKS) + VENUES + rows + "PRAGMA user_version = " + std::to_string(version_));
 }
 
 /// Gives a record of this version of before the tables that it lacks. What rests by it ends with the next day: none of
@@ -160,6 +226,8 @@ void Record::addTables(long version) {
                   "; COMMIT");
 }
 
+/// A process that ended within this may have made the file, and its folder, and synced neither: so each one that makes
+/// the record syncs them, in front of the commit that no later one makes again.
 void Record::make() {
     say(member_, database_.path() + " is made: no name of before is known, and numbers begin with 1");
     begin_.run();
@@ -169,9 +237,15 @@ void Record::make() {
     database_.run(SWITCHES);
     state_ = State();
     forgetDesks();
+    forgetVenues();
     const bool tookOver = takeOver(before_, member_, database_, state_);
     if (tookOver) state_.ordersEnded = std::time(nullptr);  // As of a record of before.
     database_.run("PRAGMA user_version = " + std::to_string(VERSION));
+    try {
+        syncFoldersOf(database_.path());
+    } catch (const std::runtime_error &why) {
+        database_.fail(why.what());
+    }
     commit();
     if (tookOver) putAside(before_);
 }
@@ -204,6 +278,8 @@ void Record::look(long changed, bool hasDesks) {
     long at = rows.number(14);
     forgetDesks();
     if (hasDesks) lookAtDesks();
+    forgetVenues();
+    if (version_ == WITH_VENUES) lookAtVenues();
     lookAtTurns(at);
     if (boot_.empty() || boot != boot_) step("the system was started anew");
     else if (changed > at + MOMENT) step("its file was put there behind its last commit");
@@ -230,6 +306,50 @@ void Record::lookAtDesks() {
     }
 }
 
+/// Each venue has to be found in the record: until then it is taken for the one of its place among the settings.
+void Record::forgetVenues() {
+    firstLetter_.clear();
+    venues_.clear();
+    places_.clear();
+    for (std::size_t at = 0; at < letters_.size(); at++) {
+        places_.push_back(static_cast<long>(at));
+        if (at) venues_[static_cast<long>(at)];
+    }
+}
+
+/// Reads the venues, also those that the settings don't have any more.
+void Record::lookAtVenues() {
+    venues_.clear();
+    Statement all(database_, READ_VENUES);
+    for (Rows rows = all.of(); rows.next();) {
+        const long place = rows.number(0);
+        if (!place) {
+            firstLetter_ = rows.bytes(1);
+            continue;
+        }
+        VenueState it;
+        it.told = {rows.number(2), rows.number(3)};
+        it.first = rows.number(4);
+        it.last = rows.number(5);
+        it.settled = rows.number(6);
+        it.dropBefore = rows.number(7);
+        it.ordersEnded = rows.number(8);
+        venues_[place] = {rows.bytes(1), it, it, it, it};
+    }
+    if (firstLetter_.empty()) database_.fail("it is damaged, and has no first venue: put a copy back");
+}
+
+/// Takes in the numbers that a turn has kept of a desk's session, or of a venue. Whether they can be read.
+bool Record::takeNumbers(bool isOfVenue, long place, const std::string &text) {
+    if (isOfVenue) {
+        VenueState &it = venues_[place].now;
+        return std::sscanf(text.c_str(), "%ld %ld %ld %ld", &it.told.report, &it.told.reject, &it.last, &it.settled) ==
+               4;
+    }
+    SessionState &it = others_[static_cast<int>(place)].now;
+    return std::sscanf(text.c_str(), "%ld %ld %ld", &it.sender, &it.target, &it.heard) == 3;
+}
+
 /// Reads what turns have kept behind the state of the tables, and in which second the last one was.
 void Record::lookAtTurns(long &at) {
     Statement all(database_, READ_TURNS);
@@ -242,14 +362,14 @@ void Record::lookAtTurns(long &at) {
         state_.last = rows.number(5);
         state_.heard = rows.number(6);
         state_.settled = rows.number(7);
-        const auto takeNumbers = [this](long desk, const std::string &text) {
-            SessionState &it = others_[static_cast<int>(desk)].now;
-            return std::sscanf(text.c_str(), "%ld %ld %ld", &it.sender, &it.target, &it.heard) == 3;
+        const auto take = [this](bool isOfVenue, long place, const std::string &text) {
+            return takeNumbers(isOfVenue, place, text);
         };
-        if (!turns_.take(rows.bytes(8), at, takeNumbers))
+        if (!turns_.take(rows.bytes(8), at, take))
             database_.fail("it is damaged, and a turn can't be read: put a copy back");
     }
     for (auto &it : others_) it.second.kept = it.second.now;
+    for (auto &it : venues_) it.second.kept = it.second.now;
 }
 
 void Record::step(const std::string &why) {
@@ -287,7 +407,14 @@ bool Record::stepsBack() {
     const bool steps = !haveAllStepped() && !areAllDoubtful();
     eachSession([](int, SessionState &it) { it.isDoubtful = true; });
     state.doubtedAt = std::time(nullptr);
-    if (!steps) return false;
+    if (!steps || hasLetOn_) return false;
+    if (!hasBegunAnew_) takeBack();
+    step("the journal has requests that it lacks");
+    commit();
+    return true;
+}
+
+void Record::takeBack() {
     eachSession([this](int desk, SessionState &it) {
         if (!hasDesk(desk)) return;  // It was told nothing, and may have a backlog that is to be told again.
         const long before = sentBefore_[desk];
@@ -295,10 +422,12 @@ bool Record::stepsBack() {
                       " AND number < " + std::to_string(placeOf(desk + 1, 0)));
         it.sender = before;
     });
-    state.told = toldBefore_;
-    step("the journal has requests that it lacks");
-    commit();
-    return true;
+    state_.told = opened_.told;
+    if (!firstLetter_.empty()) state_.settled = opened_.settled;  // Another venue may have answered since.
+    for (auto &it : venues_) {
+        it.second.now.told = it.second.before.told;
+        it.second.now.settled = it.second.before.settled;
+    }
 }
 
 void Record::close() {
@@ -325,6 +454,16 @@ State &Record::change() {
 SessionState &Record::changeSession(int desk) {
     State &first = change();
     return desk == FIRST_DESK ? first : others_.at(desk).now;
+}
+
+VenueState &Record::changeVenue(std::size_t at) {
+    State &first = change();
+    return places_[at] ? otherVenue(at).now : first;
+}
+
+void Record::dropNamesBefore(long second) {
+    change().dropBefore = second;
+    for (auto &it : venues_) it.second.now.dropBefore = second;
 }
 
 void Record::changeTables() {
@@ -378,18 +517,31 @@ bool Record::isOneRow() const {
     const auto isAsWritten = [](const std::pair<const int, Other> &it) {
         return it.second.now.hasRestOf(it.second.written);
     };
-    return isOfThisRun_ && state_.hasRestOf(written_) && std::all_of(others_.begin(), others_.end(), isAsWritten) &&
-           state_.first == written_.first && state_.doubtedAt == written_.doubtedAt &&
-           state_.dropBefore == written_.dropBefore && state_.ordersEnded == written_.ordersEnded;
+    const auto isVenueAsWritten = [](const std::pair<const long, OtherVenue> &it) {
+        return it.second.now.hasRestOf(it.second.written);
+    };
+    return isOfThisRun_ && state_.SessionState::hasRestOf(written_) &&
+           std::all_of(others_.begin(), others_.end(), isAsWritten) &&
+           std::all_of(venues_.begin(), venues_.end(), isVenueAsWritten) && state_.first == written_.first &&
+           state_.doubtedAt == written_.doubtedAt && state_.dropBefore == written_.dropBefore &&
+           state_.ordersEnded == written_.ordersEnded;
 }
 
-/// Puts the numbers of sessions beside the first one into the row of the present turn, where this has changed them.
+/// Puts the numbers of sessions and of venues beside the first ones into the row of the present turn, where this has
+/// changed them.
 void Record::keepNumbers() {
     for (auto &it : others_) {
         const SessionState &now = it.second.now;
         if (now.hasNumbersOf(it.second.kept)) continue;
         turns_.putNumbers(
             it.first, std::to_string(now.sender) + " " + std::to_string(now.target) + " " + std::to_string(now.heard));
+        it.second.kept = now;
+    }
+    for (auto &it : venues_) {
+        const VenueState &now = it.second.now;
+        if (now.hasNumbersOf(it.second.kept)) continue;
+        turns_.putVenue(it.first, std::to_string(now.told.report) + " " + std::to_string(now.told.reject) + " " +
+                                      std::to_string(now.last) + " " + std::to_string(now.settled));
         it.second.kept = now;
     }
 }
@@ -407,11 +559,18 @@ void Record::writeState() {
                            static_cast<long>(now.isSpared), static_cast<long>(now.isDoubtful),
                            static_cast<long>(it.first));
     }
+    for (auto &it : venues_) {
+        const VenueState &now = it.second.now;
+        if (firstLetter_.empty() || (now.hasNumbersOf(it.second.written) && now.hasRestOf(it.second.written))) continue;
+        writeVenue_.run(now.told.report, now.told.reject, now.first, now.last, now.settled, now.dropBefore,
+                        now.ordersEnded, it.first);
+    }
     commit_.run();
     areTablesChanging_ = false;
     isOfThisRun_ = true;
     written_ = state_;
     for (auto &it : others_) it.second.kept = it.second.written = it.second.now;
+    for (auto &it : venues_) it.second.kept = it.second.written = it.second.now;
 }
 
 void Record::commit() {

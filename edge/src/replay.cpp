@@ -21,8 +21,8 @@ namespace {
 
 const std::string OUTPUT = "output ";  // So a line with a report begins.
 
-std::runtime_error failure(const std::string &why) {
-    return std::runtime_error("venue-events " + why);
+VenueFault failure(const std::string &why) {
+    return VenueFault("venue-events " + why);
 }
 
 /// Starts a program whose output goes to this descriptor, and which ends with the thread that has started it: whoever

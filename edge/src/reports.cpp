@@ -66,6 +66,14 @@ public:
         text_ += '\1';
     }
 
+    /// The same with this text in front.
+    void copyBehind(const std::string &front, const Fields &report, int tag) {
+        begin(tag);
+        text_ += front;
+        report.append(tag, text_);
+        text_ += '\1';
+    }
+
     void copyWhereIs(const Fields &report, int tag) {
         if (report.has(tag)) copy(report, tag);
     }
@@ -110,9 +118,9 @@ std::string Reports::executionOf(const Fields &report) const {
     it.put(FIELD::AvgPx, priceOf(report.text(FIELD::Symbol), report.number(FIELD::AvgPx)));
     it.put(FIELD::ClOrdID, names_.nameOf(report.number(isOver ? FIELD::OrigClOrdID : FIELD::ClOrdID)));
     it.copy(report, FIELD::CumQty);
-    it.copy(report, FIELD::ExecID);
+    it.copyBehind(letter_, report, FIELD::ExecID);
     putFill(report, it);
-    it.copy(report, FIELD::OrderID);
+    it.copyBehind(letter_, report, FIELD::OrderID);
     it.copy(report, FIELD::OrderQty);
     if (isOver) putEnd(report, it);
     else putState(report, it);
@@ -173,7 +181,7 @@ void Reports::putEnd(const Fields &report, Body &into) const {
 std::string Reports::rejectOf(const Fields &report) const {
     Body it;
     it.put(FIELD::ClOrdID, names_.nameOf(report.number(FIELD::ClOrdID)));
-    it.copy(report, FIELD::OrderID);
+    it.copyBehind(report.number(FIELD::OrderID) ? letter_ : "", report, FIELD::OrderID);  // Else there is no order.
     it.copy(report, FIELD::OrdStatus);
     it.put(FIELD::OrigClOrdID, names_.nameOf(report.number(FIELD::OrigClOrdID)));
     if (isOfNoDesk(report)) it.put(FIELD::Text, OF_NO_DESK);
@@ -187,7 +195,7 @@ std::string Reports::rejectOf(const Fields &report) const {
 std::string Reports::nextExecId() {
     using namespace std::chrono;
     const auto now = duration_cast<microseconds>(system_clock::now().time_since_epoch()).count();
-    return "E" + std::to_string(now) + "." + std::to_string(++refusals_);
+    return letter_ + "E" + std::to_string(now) + "." + std::to_string(++refusals_);
 }
 
 /// The price that was asked for, with the decimals of its symbol where that has such a price.
@@ -203,7 +211,7 @@ Message Reports::refusal(const Message &asked, const Request &it, const OpenOrde
     if (it.isMassCancel()) return massRefusal(asked, reason, text);
     Message told = made(it.isOrder() ? "8" : "9");
     copy(asked, told, FIELD::ClOrdID);
-    told.setField(FIELD::OrderID, order ? order->orderId : "NONE");
+    told.setField(FIELD::OrderID, order ? letter_ + order->orderId : "NONE");
     told.setField(FIELD::TransactTime, timeNow());
     told.setField(FIELD::Text, SAID_BY_EDGE + text);
     if (!it.isOrder()) {
@@ -237,7 +245,7 @@ Message Reports::massRefusal(const Message &asked, int reason, const std::string
 
 Message Reports::massCancelled(const Message &asked, long number, std::size_t count) const {
     Message told = massReport(asked);
-    told.setField(FIELD::OrderID, "E" + std::to_string(number));
+    told.setField(FIELD::OrderID, letter_ + "E" + std::to_string(number));
     told.setField(FIELD::MassCancelResponse, textOf(asked, FIELD::MassCancelRequestType));
     told.setField(FIELD::TotalAffectedOrders, std::to_string(count));
     return told;
@@ -247,7 +255,7 @@ Message Reports::lost(long number, const std::string &why) const {
     Message told = made("8");
     told.setField(FIELD::ClOrdID, names_.nameOf(number));
     told.setField(FIELD::OrderID, "NONE");
-    told.setField(FIELD::ExecID, LOST + std::to_string(number));
+    told.setField(FIELD::ExecID, letter_ + LOST + std::to_string(number));
     told.setField(FIELD::ExecType, "8");
     told.setField(FIELD::OrdStatus, "8");
     told.setField(FIELD::OrdRejReason, "99");

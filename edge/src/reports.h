@@ -19,8 +19,11 @@ namespace edge {
 /// edge.
 class Reports {
 public:
-    Reports(const std::map<std::string, Tick> &ticks, NameBook &names, const std::string &lastCapacity)
-        : ticks_(ticks), names_(names), lastCapacity_(lastCapacity) {}
+    /// Of a venue with this letter, which stands in front of what tells its reports and orders from those of others;
+    /// empty: the member has one venue.
+    Reports(const std::map<std::string, Tick> &ticks, NameBook &names, const std::string &lastCapacity,
+            const std::string &letter = "")
+        : ticks_(ticks), names_(names), lastCapacity_(lastCapacity), letter_(letter) {}
 
     /// The body of a report of the venue, of the type 8 or 9: its fields in the order of their tags.
     std::string of(const Fields &report) const;
@@ -59,7 +62,7 @@ private:
 
     const std::map<std::string, Tick> &ticks_;
     NameBook &names_;
-    const std::string lastCapacity_;
+    const std::string lastCapacity_, letter_;
     long refusals_ = 0;
 };
 

@@ -42,8 +42,8 @@ Message statusOf(const std::string &symbol, bool isHalted) {
 
 }
 
-Securities::Securities(const Settings &settings, const Trader &trader, const MarketData &market)
-    : settings_(settings), trader_(trader), market_(market) {}
+Securities::Securities(const Settings &settings, const Traders &traders, const MarketData &market)
+    : settings_(settings), traders_(traders), symbols_(settings.symbols()), market_(market) {}
 
 void Securities::send(Message &message) const {
     if (!session_->send(message)) throw std::runtime_error("the store of its session takes nothing in");
@@ -71,7 +71,7 @@ std::string Securities::refusalOf(const Message &asked) const {
 
 std::vector<std::string> Securities::symbolsFor(const Message &asked) const {
     const std::string symbol = textOf(asked, FIELD::Symbol);
-    if (symbol.empty()) return settings_.venue.symbols;
+    if (symbol.empty()) return symbols_;
     return settings_.ticks.count(symbol) ? std::vector<std::string>{symbol} : std::vector<std::string>();
 }
 
@@ -88,7 +88,7 @@ void Securities::asked(const Message &message) {
     for (const std::string &symbol : symbols) {
         if (kind == "1") watched_.insert(symbol);
         if (kind == "2") watched_.erase(symbol);
-        told_[symbol] = trader_.switches().isHalted(symbol);
+        told_[symbol] = traders_.switches().isHalted(symbol);
     }
 }
 
@@ -113,10 +113,10 @@ void Securities::add(Message &into, const std::string &symbol) const {
     addAttribute(it, "PriceStep", tick.text());
     addAttribute(it, "GreatestPrice", tick.priceOf(MOST));
     addAttribute(it, "GreatestQuantity", std::to_string(MOST));
-    addAttribute(it, "Halted", trader_.switches().isHalted(symbol) ? "Y" : "N");
+    addAttribute(it, "Halted", traders_.switches().isHalted(symbol) ? "Y" : "N");
     for (const Limit limit : ALL_LIMITS)
-        if (trader_.limiter(settings_.member.desk).isSet(limit))
-            addAttribute(it, nameOf(limit), trader_.limiter(settings_.member.desk).valueOf(limit));
+        if (traders_.of(symbol).limiter(settings_.member.desk).isSet(limit))
+            addAttribute(it, nameOf(limit), traders_.of(symbol).limiter(settings_.member.desk).valueOf(limit));
     into.addGroup(it);
 }
 
@@ -127,21 +127,21 @@ bool Securities::isWatched(const std::string &symbol) const {
 /// A client that has asked for nothing yet takes each symbol for one that trades.
 bool Securities::isTold(const std::string &symbol) const {
     const auto told = told_.find(symbol);
-    const bool isHalted = trader_.switches().isHalted(symbol);
+    const bool isHalted = traders_.switches().isHalted(symbol);
     return told == told_.end() ? !isHalted && !(isUnsure_ && changed_.count(symbol)) : told->second == isHalted;
 }
 
 bool Securities::isBehind() const {
-    for (const std::string &symbol : settings_.venue.symbols)
+    for (const std::string &symbol : symbols_)
         if (isWatched(symbol) && !isTold(symbol)) return true;
     return false;
 }
 
 void Securities::tell(const std::function<bool()> &hasRoom) {
-    for (const std::string &symbol : settings_.venue.symbols) {
+    for (const std::string &symbol : symbols_) {
         if (!isWatched(symbol) || isTold(symbol)) continue;
         if (!hasRoom()) return;
-        const bool isHalted = told_[symbol] = trader_.switches().isHalted(symbol);
+        const bool isHalted = told_[symbol] = traders_.switches().isHalted(symbol);
         changed_.insert(symbol);
         Message told = statusOf(symbol, isHalted);
         send(told);

@@ -12,15 +12,15 @@
 
 #include "market_data.h"
 #include "settings.h"
-#include "trader.h"
+#include "traders.h"
 
 namespace edge {
 
-/// The venue's symbols for one member's client: which there are, with their steps and the member's limits, and whether
+/// The venues' symbols for one member's client: which there are, with their steps and the member's limits, and whether
 /// an operator has halted them.
 class Securities {
 public:
-    Securities(const Settings &settings, const Trader &trader, const MarketData &market);
+    Securities(const Settings &settings, const Traders &traders, const MarketData &market);
 
     void attach(FIX::Session &session) { session_ = &session; }
 
@@ -51,7 +51,8 @@ private:
     void send(FIX::Message &message) const;
 
     const Settings &settings_;
-    const Trader &trader_;
+    const Traders &traders_;
+    const std::vector<std::string> symbols_;  // In the order of the venues, and of each venue's own.
     const MarketData &market_;
     FIX::Session *session_ = nullptr;
     std::set<std::string> watched_;     // By a request of its own.

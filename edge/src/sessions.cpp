@@ -3,6 +3,7 @@
 #include <quickfix/FixFieldNumbers.h>
 
 #include "message_types.h"
+#include "steps.h"
 
 namespace edge {
 
@@ -31,7 +32,9 @@ std::unique_ptr<Record> recordOf(const Settings &settings) {
     const Before before{front + ".names", front + ".told", settings.storeFolder, settings.member.session};
     std::set<int> desks;
     for (const Settings &it : settings.desks) desks.insert(it.member.desk);
-    return std::unique_ptr<Record>(new Record(recordPath(settings), name, before, desks));
+    std::vector<std::string> venues;
+    for (const VenuePlace &it : settings.venues) venues.push_back(it.letter);
+    return std::unique_ptr<Record>(new Record(recordPath(settings), name, before, desks, venues, firstVenue(settings)));
 }
 
 }

@@ -2,6 +2,7 @@
 
 #include <arpa/inet.h>
 #include <quickfix/DataDictionary.h>
+#include <quickfix/Utility.h>
 #include <sys/stat.h>
 #include <unistd.h>
 
@@ -80,28 +81,31 @@ void needFile(const std::string &name, const std::string &path, int mode) {
     if (::access(path.c_str(), mode)) throw BadSetting(name, "can't be used: " + path);
 }
 
-/// Symbols with their steps, as ABC:0.01 XYZ:1.
-void readTicks(const Dictionary &from, Settings &into) {
-    for (const std::string &word : wordsOf(textOf(from, "Symbols"))) {
+/// Symbols of a venue with their steps, as ABC:0.01 XYZ:1. No two venues have one symbol.
+void readTicks(const Dictionary &from, VenuePlace &venue, Settings &into) {
+    const std::string name = "Symbols" + venue.letter;
+    for (const std::string &word : wordsOf(textOf(from, name))) {
         const std::string symbol = word.substr(0, word.find(':'));
         if (!isSymbol(symbol) || symbol.size() == word.size())
-            throw BadSetting("Symbols", "isn't of SYMBOL:STEP, as ABC:0.01: " + word);
+            throw BadSetting(name, "isn't of SYMBOL:STEP, as ABC:0.01: " + word);
         try {
             if (!into.ticks.emplace(symbol, Tick(word.substr(symbol.size() + 1))).second)
-                throw BadSetting("Symbols", "has one twice: " + symbol);
+                throw BadSetting(name, "has one twice: " + symbol);
         } catch (const std::invalid_argument &why) {
-            throw BadSetting("Symbols", why.what());
+            throw BadSetting(name, why.what());
         }
-        into.venue.symbols.push_back(symbol);
+        venue.symbols.push_back(symbol);
     }
-    if (into.venue.symbols.size() > MEMBERS) throw BadSetting("Symbols", "has more than eight");
-    std::ifstream beside(into.venue.journal + ".symbols");
+    if (venue.symbols.empty() && !venue.letter.empty()) throw BadSetting(name, "has no symbol");
+    if (venue.symbols.size() > MEMBERS) throw BadSetting(name, "has more than eight");
+    std::ifstream beside(venue.journal + ".symbols");
     std::string line;
-    if (beside && std::getline(beside, line) && wordsOf(line) != into.venue.symbols)
-        throw BadSetting("Symbols", "are others than those of " + into.venue.journal + ".symbols, which are " + line);
+    if (beside && std::getline(beside, line) && wordsOf(line) != venue.symbols)
+        throw BadSetting(name, "are others than those of " + venue.journal + ".symbols, which are " + line);
 }
 
-/// The password of a user, of a file of lines USER:PASSWORD that its owner alone may read.
+/// The password of a user, of a file of lines USER:PASSWORD that its owner alone may read. Behind a second line of the
+/// user, or by a blank that nobody sees, another password would count than the one that was written last.
 std::string passwordOf(const std::string &path, const std::string &user) {
     struct stat it;
     std::ifstream file(path);
@@ -109,10 +113,19 @@ std::string passwordOf(const std::string &path, const std::string &user) {
     if (!isSeen && (errno == ENOENT || errno == ENOTDIR)) throw BadSetting("PasswordFile", "isn't there: " + path);
     if (!isSeen || !file) throw BadSetting("PasswordFile", "can't be read: " + path);
     if (it.st_mode & 077) throw BadSetting("PasswordFile", "may be used by others than its owner: chmod 0600 " + path);
+    const std::string front = user + ":";
+    std::vector<std::string> found;
     for (std::string line; std::getline(file, line);)
-        if (line.compare(0, user.size() + 1, user + ":") == 0 && line.size() > user.size() + 1)
-            return line.substr(user.size() + 1);
-    throw BadSetting("Username", "has no line in " + path + ": " + user);
+        if (!line.compare(0, front.size(), front)) found.push_back(line.substr(front.size()));
+    if (found.empty()) throw BadSetting("Username", "has no line in " + path + ": " + user);
+    const auto refuse = [&](const char *what) { throw BadSetting("PasswordFile", what + user + ": " + path); };
+    const auto isBlank = [](char it) { return it == ' ' || it == '\t' || it == '\r'; };
+    const std::string &password = found.front();
+    if (found.size() > 1) refuse("has two lines of ");
+    if (password.empty()) refuse("has an empty password of ");
+    if (isBlank(password.front())) refuse("has a blank in front of the password of ");
+    if (isBlank(password.back())) refuse("has a blank behind the password of ");
+    return password;
 }
 
 std::set<int> tagsOf(const Dictionary &from, const std::string &name, const std::string &other) {
@@ -197,7 +210,8 @@ void readIdentity(const Dictionary &from, Settings &into) {
                                  into.host);
         member.certificate = certificateBy(textOf(from, "StunnelConfig"), into.host, member.port);
     }
-    if (flagOr(from, "AllowAnyone", false) || !member.username.empty() || !member.certificate.empty()) return;
+    member.takesAnyone = flagOr(from, "AllowAnyone", false);
+    if (member.takesAnyone || !member.username.empty() || !member.certificate.empty()) return;
     throw BadSetting("Username",
                      "is missing: neither a password nor a certificate of its own, by StunnelConfig, tells "
                      "who " +
@@ -219,9 +233,14 @@ void needDictionary(const std::string &path) {
     }
 }
 
-void needKnownNames(const Dictionary &from) {
-    for (const auto &entry : from)
-        if (!isSettingName(entry.first)) throw BadSetting(entry.first, "is no setting");
+/// All names of a file of settings are known. Each is told as it is written there: the library holds it in capitals.
+void needKnownNames(std::istream &file) {
+    for (std::string line; std::getline(file, line);) {
+        const std::size_t end = line.find('=');
+        const std::string name = FIX::string_strip(line.substr(0, end));
+        if (end != std::string::npos && !name.empty() && name[0] != '#' && !isSettingName(FIX::string_toUpper(name)))
+            throw BadSetting(name, "is no setting");
+    }
 }
 
 /// What would drop or shift what a member has to be told, or is the library's way of what the edge does itself.
@@ -255,9 +274,9 @@ FIX::SessionSettings forLibrary(const FIX::SessionID &session, const Dictionary 
     return library;
 }
 
-/// What members of one file have of one venue.
-void needOneVenue(const Dictionary &common, const Dictionary &session) {
-    for (const char *name : {"VenuePort", "VenueJournal", "VenueEvents", "Symbols"})
+/// What members of one file have of their venues.
+void needSameVenues(const Dictionary &common, const Dictionary &session) {
+    for (const std::string &name : venueSettings())
         if (session.has(name) && (!common.has(name) || session.getString(name) != common.getString(name)))
             throw BadSetting(name, "is one for all sessions, and belongs to [DEFAULT]");
 }
@@ -359,29 +378,83 @@ std::vector<CopiedMember> copiedBy(const FIX::SessionSettings &all, const Dictio
     return copied;
 }
 
-void readVenue(const Dictionary &from, Settings &into) {
-    into.venue.port = static_cast<int>(numberOf(from, "VenuePort", 1, 65536 - MEMBERS));
-    into.venue.journal = textOf(from, "VenueJournal");
-    if (from.has("VenueReplay")) throw BadSetting("VenueReplay", "is VenueEvents now, the program venue-events");
-    into.venue.events = textOf(from, "VenueEvents");
-    needFile("VenueEvents", into.venue.events, X_OK);
-    readTicks(from, into);
+/// An address of a machine, as 127.0.0.1.
+std::string addressOf(const Dictionary &from, const std::string &name) {
+    const std::string host = textOr(from, name, "127.0.0.1");
+    in_addr address;
+    if (::inet_pton(AF_INET, host.c_str(), &address) != 1)
+        throw BadSetting(name, "is no address, as 127.0.0.1: " + host);
+    return host;
 }
 
-void readHost(const Dictionary &from, Settings &into) {
-    into.host = textOr(from, "SocketAcceptHost", "127.0.0.1");
-    in_addr address;
-    if (::inet_pton(AF_INET, into.host.c_str(), &address) != 1)
-        throw BadSetting("SocketAcceptHost", "is no address, as 127.0.0.1: " + into.host);
+/// A venue of this letter; empty: there is one, which needs none. All of them may have one program.
+void readVenue(const Dictionary &from, const std::string &letter, Settings &into) {
+    VenuePlace it;
+    it.letter = letter;
+    it.host = addressOf(from, "VenueHost" + letter);
+    it.port = static_cast<int>(numberOf(from, "VenuePort" + letter, 1, 65536 - MEMBERS));
+    it.journal = textOf(from, "VenueJournal" + letter);
+    if (from.has("VenueReplay")) throw BadSetting("VenueReplay", "is VenueEvents now, the program venue-events");
+    const std::string events = from.has("VenueEvents" + letter) ? "VenueEvents" + letter : "VenueEvents";
+    it.events = textOf(from, events);
+    needFile(events, it.events, X_OK);
+    readTicks(from, it, into);
+    into.venues.push_back(it);
+}
+
+/// Two venues are two programs with two journals: each has eight ports from its own on.
+void needVenuesApart(const VenuePlace &one, const VenuePlace &other) {
+    const std::string too = " is that of the venue " + other.letter + ", too";
+    if (one.journal == other.journal) throw BadSetting("VenueJournal" + one.letter, one.journal + too);
+    if (one.host == other.host && std::abs(one.port - other.port) < MEMBERS)
+        throw BadSetting("VenuePort" + one.letter, std::to_string(one.port) +
+                                                       " is less than eight from that of the venue " + other.letter +
+                                                       ": each member has a port at each venue");
+}
+
+/// The letters of Venues, as A B.
+std::vector<std::string> lettersOf(const Dictionary &from) {
+    const std::vector<std::string> letters = wordsOf(textOf(from, "Venues"));
+    for (auto it = letters.begin(); it != letters.end(); ++it) {
+        if (!isVenue(*it)) throw BadSetting("Venues", "has what isn't one capital: " + *it);
+        if (std::count(letters.begin(), it, *it)) throw BadSetting("Venues", "has one twice: " + *it);
+    }
+    if (letters.empty()) throw BadSetting("Venues", "has no venue");
+    if (letters.size() > MOST_VENUES) throw BadSetting("Venues", "has more than eight");
+    return letters;
+}
+
+/// Settings of venues have the letters of those that there are, or none where there are no letters.
+void needLetters(const Dictionary &from, const std::vector<std::string> &letters) {
+    for (const std::string front : OF_VENUES) {
+        if (from.has(front) && !letters.empty() && front != "VenueEvents")
+            throw BadSetting(
+                front, "is of a venue without a letter, and Venues has letters: name it " + front + letters.front());
+        for (char letter = 'A'; letter <= 'Z'; letter++) {
+            const std::string name = front + letter;
+            if (from.has(name) && !std::count(letters.begin(), letters.end(), std::string(1, letter)))
+                throw BadSetting(name, std::string("is of the venue ") + letter + ", which Venues doesn't have");
+        }
+    }
+}
+
+void readVenues(const Dictionary &from, Settings &into) {
+    const std::vector<std::string> letters = from.has("Venues") ? lettersOf(from) : std::vector<std::string>();
+    needLetters(from, letters);
+    if (letters.empty()) readVenue(from, "", into);
+    for (const std::string &letter : letters) {
+        readVenue(from, letter, into);
+        for (std::size_t at = 0; at + 1 < into.venues.size(); at++)
+            needVenuesApart(into.venues.back(), into.venues[at]);
+    }
 }
 
 Settings settingsOf(const FIX::SessionSettings &all, const FIX::SessionID &session) {
     const Dictionary &common = all.get(), &from = all.get(session);
-    needKnownNames(from);
     refuseOthers(from);
     Settings it;
-    readVenue(from, it);
-    readHost(from, it);
+    readVenues(from, it);
+    it.host = addressOf(from, "SocketAcceptHost");
     it.hours = hoursOf(from);
     it.dayEnds = dayEndsOf(from, it.hours);
     const std::vector<CopiedMember> copied = copiedBy(all, from);
@@ -458,13 +531,15 @@ FIX::SessionSettings sectionsOf(const std::string &path) {
     std::ifstream file(path);
     if (!file) throw BadSetting(path, "can't be read");
     try {
+        needKnownNames(file);
+        file.clear();
+        file.seekg(0);
         FIX::SessionSettings all;
         file >> all;
-        needKnownNames(all.get());
         const std::set<FIX::SessionID> sessions = all.getSessions();
         if (sessions.empty()) throw BadSetting("[SESSION]", "is missing");
         for (const FIX::SessionID &session : sessions)
-            if (sessions.size() > 1) needOneVenue(all.get(), all.get(session));
+            if (sessions.size() > 1) needSameVenues(all.get(), all.get(session));
         return all;
     } catch (const FIX::ConfigError &why) {
         throw BadSetting(path, why.detail.empty() ? why.what() : why.detail);
@@ -482,6 +557,10 @@ std::string CopiedMember::compIdWords() const {
 bool isSymbol(const std::string &it) {
     return !it.empty() && it.size() <= 8 &&
            it.find_first_not_of("ABCDEFGHIJKLMNOPQRSTUVWXYZ0123456789") == std::string::npos;
+}
+
+bool isVenue(const std::string &it) {
+    return it.size() == 1 && it[0] >= 'A' && it[0] <= 'Z';
 }
 
 bool isMember(const std::string &it) {

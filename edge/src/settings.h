@@ -69,6 +69,7 @@ struct MemberSettings {
     std::vector<CopiedMember> copied;  // None: it is a member of the venue.
     CopyNames copyNames = CopyNames::Parties;
     int desk = FIRST_DESK;
+    bool takesAnyone = false;  // Nothing has to tell who it is.
 
     bool isOfCopies() const { return !copied.empty(); }
     std::string name() const { return (isOfCopies() ? "D" : "C") + std::to_string(number); }
@@ -82,12 +83,15 @@ struct Folders {
     std::string edge, store, log;
 };
 
+/// The most venues that one edge stands in front of.
+constexpr std::size_t MOST_VENUES = 8;
+
 /// All settings of the process of one member, read and looked through: for the session of its first desk, and beside
 /// that those for each other one. What belongs to the member itself is the same in all of them.
 struct Settings {
     FIX::SessionSettings library;  // For QuickFIX, of this session alone, without what is the edge's own.
-    VenuePlace venue;
-    std::map<std::string, Tick> ticks;
+    std::vector<VenuePlace> venues;       // One at least, and without a letter where the settings give none.
+    std::map<std::string, Tick> ticks;    // Of the symbols of all venues.
     std::string host, folder, logFolder;  // The folders are this member's alone.
     std::string storeFolder;              // Of an edge of before, and this member's alone; empty: there is none.
     Folders ofAll;              // The folders of all members that these lie in; empty: a folder isn't in such a one.
@@ -98,6 +102,13 @@ struct Settings {
     Schedule hours, dayEnds;    // When the member's session begins and ends, and when what is Day does.
     MemberSettings member;
     std::vector<Settings> desks;  // The other desks, by their numbers.
+
+    /// The symbols of all venues, in the order of these and of each venue's own.
+    std::vector<std::string> symbols() const {
+        std::vector<std::string> all;
+        for (const VenuePlace &it : venues) all.insert(all.end(), it.symbols.begin(), it.symbols.end());
+        return all;
+    }
 
     /// The sessions of all desks.
     std::vector<const MemberSettings *> sessions() const {
@@ -113,9 +124,10 @@ struct MemberFolder {
     std::string settings;  // The file that says so.
 };
 
-/// Whether a symbol, a member or a session of copies may have this name: 1 to 8 capitals and digits, C1 to C8, and D1
-/// to D8.
+/// Whether a symbol, a venue, a member or a session of copies may have this name: 1 to 8 capitals and digits, one
+/// capital, C1 to C8, and D1 to D8.
 bool isSymbol(const std::string &it);
+bool isVenue(const std::string &it);
 bool isMember(const std::string &it);
 bool isOfCopies(const std::string &it);
 

@@ -24,8 +24,32 @@ std::string wordsOf(const Copies &copies, const MemberSettings &settings) {
     std::string members;
     for (const CopiedMember &it : settings.copied) members += " " + it.name;
     const std::string waiting = copies.waiting();
-    return std::to_string(copies.count()) + " copies of" + members + ", the last " + std::to_string(copies.last()) +
+    return std::to_string(copies.count()) + " copies of" + members + ", the last " + copies.lastWord() +
            (copies.isCutOff() ? ", doesn't read the journal" : "") + (waiting.empty() ? "" : ", waits for" + waiting);
+}
+
+/// The same of each venue.
+std::string wordsOf(const std::list<Copies> &all, const MemberSettings &settings) {
+    std::string words;
+    for (const Copies &it : all) words += (words.empty() ? "" : ", ") + wordsOf(it, settings);
+    return words;
+}
+
+/// How far a member is, at each venue where it has several.
+std::string stateOf(const Member &member) {
+    if (member.venues().size() == 1 || !member.copies().empty()) return wordsOf(member.state());
+    std::string words;
+    for (const Venue &it : member.venues())
+        words += (words.empty() ? "" : ", ") + it.place().letter + " " + wordsOf(it.state());
+    return words;
+}
+
+/// The last report of each venue that a member was told.
+std::string lastOf(const Member &member) {
+    std::string words;
+    for (const Venue &it : member.venues())
+        words += (words.empty() ? "" : " ") + it.place().letter + std::to_string(it.trader().counts().lastReport);
+    return words;
 }
 
 /// What a desk's client hasn't taken, its day, and whether it is being told again what it wasn't sent: of copies the
@@ -47,11 +71,10 @@ std::string othersOf(const Member &member) {
 }
 
 /// What a member has asked for, and what it was told.
-std::string wordsOf(const Counts &counts, const Member &member) {
+std::string wordsOf(const CountsOfAll &counts, const Member &member) {
     return std::to_string(counts.requests) + " requests, " + std::to_string(counts.refusals) + " refused by the edge" +
-           refusalsOf(member) + ", " + std::to_string(counts.reports) + " reports, the last " +
-           std::to_string(counts.lastReport) + ", " + std::to_string(counts.openOrders) + " open orders worth " +
-           textOf(member.openValue());
+           refusalsOf(member) + ", " + std::to_string(counts.reports) + " reports, the last " + lastOf(member) + ", " +
+           std::to_string(counts.openOrders) + " open orders worth " + textOf(member.openValue());
 }
 
 }
@@ -61,10 +84,9 @@ std::string statusOf(const Member &member) {
     const MemberSettings &settings = member.settings();
     const MemberSession &first = member.sessions().front();
     std::ostringstream line;
-    line << settings.name() << " (" << settings.session.getTargetCompID().getString()
-         << "): " << wordsOf(member.state()) << (outside.empty() ? "" : ", ") << outside << ", "
-         << (first.isLoggedOn() ? "logged on" : "away") << ", "
-         << (member.copies() ? wordsOf(*member.copies(), settings) : wordsOf(member.counts(), member)) << ", "
+    line << settings.name() << " (" << settings.session.getTargetCompID().getString() << "): " << stateOf(member)
+         << (outside.empty() ? "" : ", ") << outside << ", " << (first.isLoggedOn() ? "logged on" : "away") << ", "
+         << (member.copies().empty() ? wordsOf(member.counts(), member) : wordsOf(member.copies(), settings)) << ", "
          << wordsOf(first) << othersOf(member) << (off.empty() ? "" : ", ") << off;
     return line.str();
 }
@@ -75,17 +97,18 @@ StatusPage::StatusPage(int port, const Member &member)
           port, [this] { return statusOf(member_) + "\n"; }, [this] { return figures(); }) {}
 
 std::string StatusPage::figures() const {
-    const Counts &counts = member_.counts();
+    const CountsOfAll counts = member_.counts();
+    long copies = 0;
+    for (const Copies &it : member_.copies()) copies += it.count();
     const MemberSession &first = member_.sessions().front();
     const std::string member = "{member=\"" + member_.settings().name() + "\"} ";
     std::ostringstream page;
-    page << "gikvand_edge_serves" << member << (member_.state() == Member::State::Serves) << "\n"
+    page << "gikvand_edge_serves" << member << (member_.state() == Serving::Serves) << "\n"
          << "gikvand_edge_within_hours" << member << member_.hours().isOpen(std::time(nullptr)) << "\n"
          << "gikvand_edge_logged_on" << member << first.isLoggedOn() << "\n"
          << "gikvand_edge_requests_total" << member << counts.requests << "\n"
          << "gikvand_edge_refusals_total" << member << counts.refusals << "\n"
-         << "gikvand_edge_reports_total" << member
-         << (member_.copies() ? member_.copies()->count() : counts.reports.load()) << "\n"
+         << "gikvand_edge_reports_total" << member << (member_.copies().empty() ? counts.reports : copies) << "\n"
          << "gikvand_edge_open_orders" << member << counts.openOrders << "\n"
          << "gikvand_edge_open_value" << member << textOf(member_.openValue()) << "\n"
          << "gikvand_edge_day_began_seconds" << member << first.dayBegan() << "\n"
@@ -98,6 +121,12 @@ std::string StatusPage::figures() const {
         page << "gikvand_edge_logged_on" << desk << it.isLoggedOn() << "\n"
              << "gikvand_edge_day_began_seconds" << desk << it.dayBegan() << "\n"
              << "gikvand_edge_unsent_bytes" << desk << it.unsent() << "\n";
+    }
+    for (const Venue &it : member_.venues()) {
+        if (member_.venues().size() == 1 || !member_.copies().empty()) continue;
+        const std::string venue = "{member=\"" + member_.settings().name() + "\",venue=\"" + it.place().letter + "\"} ";
+        page << "gikvand_edge_venue_serves" << venue << (it.state() == Serving::Serves) << "\n"
+             << "gikvand_edge_venue_last_report" << venue << it.trader().counts().lastReport << "\n";
     }
     for (const auto &it : member_.switches().shownHalted())
         page << "gikvand_edge_halted{member=\"" << member_.settings().name() << "\",symbol=\"" << it.first << "\"} "

@@ -3,6 +3,8 @@
 // The steps of prices that a member's orders were taken with. No message passes here: a start looks here before a
 // member is served, and so does a look through the settings.
 
+#include <string>
+
 #include "settings.h"
 
 namespace edge {
@@ -13,5 +15,9 @@ void needSameSteps(const Settings &settings);
 
 /// The same, and keeps them at the member's first start. Its folder is held meanwhile.
 void keepSteps(const Settings &settings);
+
+/// The letter of the venue that a member had who had one: the one with the symbols and steps of that, or the first one of
+/// the settings.
+std::string firstVenue(const Settings &settings);
 
 }

@@ -124,7 +124,7 @@ void Store::beginDay() {
         SessionState &state = own_.change();
         state.sender = state.target = state.heard = 1;
         state.created = FIX::UtcTimeStamp();
-        record_.change().dropBefore = std::time(nullptr) - DAY;
+        record_.dropNamesBefore(std::time(nullptr) - DAY);
     });
 }
 

@@ -17,7 +17,7 @@
 
 #include "descriptor.h"
 #include "lines.h"
-#include "process.h"
+#include "starter.h"
 
 namespace edge {
 
@@ -166,6 +166,7 @@ private:
     bool isOver() const;
 
     std::list<Child> children_;
+    Starter starter_;
     Descriptor signals_;
     bool isReady_ = false, isStopping_ = false, isInOrder_ = true;
     Clock::time_point deadline_;
@@ -202,6 +203,7 @@ void Supervisor::turn() {
         const auto count =
             std::count_if(children_.begin(), children_.end(), [](const Child &it) { return it.isListening(); });
         say("", "ready, " + std::to_string(count) + " members");
+        starter_.tell();
     }
     if (isStopping_ && Clock::now() >= deadline_) stop();
 }

@@ -12,6 +12,7 @@
 #include <utility>
 
 #include "lines.h"
+#include "setting_names.h"
 #include "setting_values.h"
 #include "users.h"
 
@@ -24,6 +25,7 @@ using FIX::Dictionary;
 const char *const SERVICES = "/etc/gikvand-edge/", *const USERS = "gikvand-edge-", *const READERS = "venued";
 const char *const VENUE = "/etc/venued.conf", *const VENUES = "/etc/venued";
 const char *const SETTINGS = ".cfg";
+const std::string PORT = "VenuePort";
 
 struct Close {
     void operator()(DIR *folder) const { ::closedir(folder); }
@@ -86,8 +88,9 @@ bool isOneDoor(const Door &one, const Door &other) {
 
 void needApart(const Dictionary &own, const Dictionary &other, const std::string &path) {
     const std::string too = " is that of " + path + ", too: each member has its own";
-    if (isShared(own, other, "Member") && isShared(own, other, "VenuePort"))
-        throw BadSetting("Member", own.getString("Member") + too);
+    for (const std::string &port : venueSettings())
+        if (!port.compare(0, PORT.size(), PORT) && isShared(own, other, "Member") && isShared(own, other, port.c_str()))
+            throw BadSetting("Member", own.getString("Member") + too);
     for (const Door &it : doorsOf(own))
         for (const Door &door : doorsOf(other))
             if (isOneDoor(it, door)) throw BadSetting(it.name, it.port + too);
@@ -108,6 +111,30 @@ long numberIn(const std::string &path, const std::string &name) {
     return number;
 }
 
+/// The venue's words, where they are on this machine, have this port and this member.
+void needGatewayOf(const Settings &settings, const VenuePlace &venue) {
+    std::vector<std::string> paths = filesIn(VENUES, ".conf");
+    paths.insert(paths.begin(), VENUE);
+    for (const std::string &path : paths) {
+        const long first = numberIn(path, "PORT"), count = numberIn(path, "GATEWAYS"), port = venue.port;
+        if (port > first && port < first + count)
+            throw BadSetting(PORT + venue.letter, "isn't PORT of " + path + ", " + std::to_string(first) +
+                                                      ", but the port of C" + std::to_string(port - first + 1) + ": " +
+                                                      std::to_string(port));
+        if (port == first && settings.member.number > count)
+            throw BadSetting("Member", "is above GATEWAYS of " + path + ", " + std::to_string(count) + ": " +
+                                           settings.member.name());
+    }
+}
+
+}
+
+std::vector<std::string> settingsAt(const std::string &path) {
+    struct stat it;
+    if (::stat(path.c_str(), &it) || !S_ISDIR(it.st_mode)) return {path};
+    const std::vector<std::string> paths = filesIn(path, SETTINGS);
+    if (paths.empty()) throw BadSetting(path, "has no NAME.cfg: are these the settings of gikvand-edge?");
+    return paths;
 }
 
 void needOwnPlaces(const std::string &path) {
@@ -122,18 +149,8 @@ void needOwnPlaces(const std::string &path) {
 }
 
 void needGateway(const Settings &settings) {
-    std::vector<std::string> paths = filesIn(VENUES, ".conf");
-    paths.insert(paths.begin(), VENUE);
-    for (const std::string &path : paths) {
-        const long first = numberIn(path, "PORT"), count = numberIn(path, "GATEWAYS"), port = settings.venue.port;
-        if (port > first && port < first + count)
-            throw BadSetting("VenuePort", "isn't PORT of " + path + ", " + std::to_string(first) +
-                                              ", but the port of C" + std::to_string(port - first + 1) + ": " +
-                                              std::to_string(port));
-        if (port == first && settings.member.number > count)
-            throw BadSetting("Member", "is above GATEWAYS of " + path + ", " + std::to_string(count) + ": " +
-                                           settings.member.name());
-    }
+    for (const VenuePlace &it : settings.venues)
+        if (!it.host.compare(0, 4, "127.")) needGatewayOf(settings, it);
 }
 
 bool becomeServicesUser(const std::string &path) {

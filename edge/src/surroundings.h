@@ -1,13 +1,18 @@
 #pragma once
 
-// What --check looks at beside the words of a file: other members' files, the venue's own settings, and the user whom
-// the member's service has.
+// What stands beside the words of a file: the files of other members, the venue's own settings, and the user whom the
+// member's service has. --check looks at these, and an operator may name the whole folder.
 
 #include <string>
+#include <vector>
 
 #include "settings.h"
 
 namespace edge {
+
+/// The files of settings that a path stands for: itself, or each NAME.cfg of a folder. A folder without one is a
+/// BadSetting.
+std::vector<std::string> settingsAt(const std::string &path);
 
 /// No other file in the folder of this one, NAME.cfg with one session, has the same member, port or folder; else a
 /// BadSetting. A file that can't be read isn't looked at, nor is anything where this one has several sessions.

@@ -8,6 +8,7 @@
 #include <iterator>
 
 #include "lines.h"
+#include "messages.h"
 #include "seconds.h"
 #include "told_names.h"
 
@@ -16,13 +17,14 @@ namespace edge {
 namespace {
 
 // Reasons of 103 for orders, and of 102 for cancels and replaces.
-constexpr int CLOSED = 2, UNKNOWN_ORDER = 1, EXCHANGE_OPTION = 2, DUPLICATE = 6, OTHER = 99;
+constexpr int UNKNOWN_SYMBOL = 1, CLOSED = 2, UNKNOWN_ORDER = 1, EXCHANGE_OPTION = 2, DUPLICATE = 6, OTHER = 99;
 
 // Of what the venue tells while the journal is read. What comes behind that stays unread: the venue keeps 16 MiB of it.
 constexpr std::size_t MOST_HELD = 2 << 20;
-constexpr std::chrono::seconds PATIENCE(5);  // With a venue that has many requests to answer.
-constexpr long BESIDE = 3;                   // Numbers that a mass cancel takes beside those of its cancels.
-constexpr std::size_t SHOWN = 20;            // Orders of which the names are said.
+constexpr std::chrono::seconds PATIENCE(5);       // With a venue that has many requests to answer.
+constexpr std::chrono::seconds LONG_READING(15);  // Behind that no Logon waits for a journal.
+constexpr long BESIDE = 3;                        // Numbers that a mass cancel takes beside those of its cancels.
+constexpr std::size_t SHOWN = 20;                 // Orders of which the names are said.
 
 // Seconds. A name is kept for a day at least, so what is sent again within half of one is known if it came before. The
 // clocks of a member and of the edge are no further apart than the library lets them be.
@@ -46,21 +48,24 @@ long secondOf(const std::string &text) {
 
 }
 
-Trader::Trader(const Settings &settings, Record &record, Names &names, VenueLink &link)
-    : settings_(settings),
-      member_(settings.member),
+constexpr std::size_t Trader::MOST_UNSENT;
+
+Trader::Trader(const Settings &settings, const VenuePlace &venue, Shared &shared, Record &record, Names &names,
+               VenueLink &link)
+    : member_(settings.member),
+      venue_(venue),
+      shared_(shared),
       record_(record),
       names_(names),
       link_(link),
       cancels_(names, link),
-      switches_(record, settings.venue.symbols),
+      switches_(shared.switches()),
       exposure_(settings.ticks),
       market_(settings.ticks, settings.member.limits.orders.desks),
-      rate_(settings.member.limits.membersPerSecond),
-      room_(settings.folder, settings.diskReserve),
-      quota_({settings.folder, settings.logFolder}, settings.folderBytes) {
+      rate_(shared.rate()) {
     for (const MemberSettings *it : settings.sessions())
-        seats_[it->desk].reset(new Seat(*it, settings.ticks, record, names, exposure_, market_));
+        seats_[it->desk].reset(new Seat(*it, settings.ticks, record, names, exposure_, market_, elsewhere_,
+                                        venue.letter, shared.rateOf(it->desk)));
 }
 
 void Trader::attach(int desk, FIX::Session &session, const Day &day) {
@@ -68,11 +73,14 @@ void Trader::attach(int desk, FIX::Session &session, const Day &day) {
     seat.session = &session;
     seat.day = &day;
     seat.teller.attach(session);
+    seat.wasLeft = seat.settings.limits.cancelOnDisconnect && !seat.record.state().isSpared;
+    seat.cancelledTo = 0;
     if (desk != FIRST_DESK) return;
-    counts_.lastReport = record_.state().told.report;
+    counts_.lastReport = names_.state().told.report;
+    hasFailed_ = false;
+    readSince_ = Bucket::Clock::time_point::max();
     if (!record_.database().isOpen()) return;  // It is tried again.
     cancels_.attach();
-    switches_.attach();
 }
 
 /// Whether the limits of a desk need that.
@@ -100,10 +108,10 @@ void Trader::pass(Seat &seat, const FIX::Message &message) {
     const Request head = Orders::headOf(message, desk);
     counts_.requests++;
     try {
-        const bool isKnown = names_.isKnown(head.name, desk), isAgain = isSentAgain(message);
+        const bool isKnown = this->isKnown(head.name, desk), isAgain = isSentAgain(message);
         if (isKnown && isAgain) {
             const char *const what =
-                names_.numberOf(head.name, desk) ? "has been passed on before: " : "was refused before: ";
+                names_.wasRefused(head.name, desk) ? "was refused before: " : "has been passed on before: ";
             say(seat.settings.deskName(), "a request that was sent again " + (what + shown(head.name)));
             return;
         }
@@ -122,6 +130,11 @@ void Trader::pass(Seat &seat, const FIX::Message &message) {
     } catch (const Refused &why) {
         refuse(seat, message, head, why);
     }
+}
+
+/// Whether a desk has used a name before, at whichever venue.
+bool Trader::isKnown(const std::string &name, int desk) {
+    return names_.isKnown(name, desk) || (desk == FIRST_DESK && elsewhere_.isNameless(name));
 }
 
 /// Passes a request on for which there is room, and which neither an operator nor a limit is against.
@@ -188,8 +201,13 @@ bool Trader::hasManyUnderWay(const Seat &seat) const {
     return underWay_.sizeOf(seat.settings.desk) >= seat.settings.limits.underWay;
 }
 
+bool Trader::takesMassCancel(int desk) const {
+    const std::size_t count = open_.size() + underWay_.sizeOf(ALL_DESKS);
+    return isReady_ && !hasManyUnderWay(seatOf(desk)) && !isStuck() && hasNumbersFor(count);
+}
+
 void Trader::needFewUnderWay(const Request &it) const {
-    if (hasManyUnderWay(seatOf(it.desk)))
+    if (hasManyUnderWay(seatOf(it.desk)) || isStuck())
         throw Refused(it.isOrder() ? OTHER : EXCHANGE_OPTION,
                       std::to_string(underWay_.sizeOf(it.desk)) + " requests wait for the venue, which doesn't answer");
 }
@@ -200,6 +218,16 @@ bool Trader::isBusy(int desk) const {
     const Seat &seat = seatOf(desk);
     const bool waits = hasManyUnderWay(seat) || isInDoubt(seat) || cancels_.isEndOwed();
     return isReady_ && waits && Bucket::Clock::now() - std::max(heardAt_, seat.fullAt) < PATIENCE;
+}
+
+void Trader::noteUnsent() {
+    if (link_.unsent() < MOST_UNSENT / 2) fullSince_ = Bucket::Clock::time_point::max();
+    else if (link_.unsent() >= MOST_UNSENT) fullSince_ = std::min(fullSince_, Bucket::Clock::now());
+}
+
+/// Whether the venue, as one of several, has taken too little for so long that nobody waits for it.
+bool Trader::isStuck() const {
+    return !venue_.letter.empty() && Bucket::Clock::now() - PATIENCE >= fullSince_;
 }
 
 void Trader::needRoom(const Request &it) {
@@ -218,7 +246,7 @@ void Trader::needAllowed(const Request &it) const {
 /// What a limit refuses has no number yet, so the venue never hears of it.
 void Trader::needWithinLimits(const Request &it, long original) {
     Seat &seat = seatOf(it.desk);
-    if (isInDoubt(seat)) seat.limiter.refuseUnknown(it);
+    if (isInDoubt(seat) || isUnknownElsewhere(seat)) seat.limiter.refuseUnknown(it);
     seat.limiter.judge(it, original);
     const bool isTaken = it.isOrder() || (it.mayStay() && exposure_.isOf(original, it));  // The venue refuses others.
     if (isTaken && member_.limits.orders.selfTrade == SelfTrade::CancelOld) cancelCrossed(it);
@@ -239,14 +267,35 @@ bool Trader::isInDoubt(const Seat &seat) const {
     return seat.limiter.limits().needsOpen() && !knowsAll();
 }
 
-bool Trader::hasRoom() {
-    const bool isKept = quota_.isKept();
-    const bool hasRoom = room_.isThere() && isKept;
-    if (hasRoom_ && !hasRoom)
-        say(member_.name(), std::string("new orders are refused: ") +
-                                (isKept ? "the disk is nearly full" : "its folders have more than MaxFolderBytes"));
-    hasRoom_ = hasRoom;
-    return hasRoom_;
+/// Whether what is open at other venues has to be known, and isn't yet.
+bool Trader::isUnknownElsewhere(const Seat &seat) const {
+    const OrderLimits &limits = seat.limiter.limits();
+    return (limits.openValue || limits.membersOpenValue) && !elsewhere_.isKnown();
+}
+
+/// What isn't sure counts by the most that it may be. What the journal tells while it is read is of before.
+Money Trader::openValue(int desk) const {
+    const Money now = isReady_ ? exposure_.value(desk) : 0;
+    const auto before = valueBefore_.find(desk);
+    return isSure() || before == valueBefore_.end() ? now : std::max(now, before->second);
+}
+
+std::size_t Trader::openOrders(int desk) const {
+    const std::size_t rest = desk ? open_.sizeOf(desk) : open_.size();
+    const std::size_t now = isReady_ ? rest + underWay_.ordersOf(desk) : 0;
+    const auto before = ordersBefore_.find(desk);
+    return isSure() || before == ordersBefore_.end() ? now : std::max(now, before->second);
+}
+
+/// Notes what is open, before the venue has to say anew what it has taken.
+void Trader::noteOpen() {
+    const auto note = [this](int desk) {
+        valueBefore_[desk] = openValue(desk);
+        ordersBefore_[desk] = openOrders(desk);
+    };
+    wasSure_ = isOpenKnown();
+    note(0);
+    for (const auto &it : seats_) note(it.first);
 }
 
 void Trader::needFewer(std::size_t count, int most, const std::string &who) {
@@ -257,13 +306,14 @@ void Trader::needFewer(std::size_t count, int most, const std::string &who) {
 /// Of a desk, and of the member's desks together.
 void Trader::needFewOrders(const Request &it) const {
     const int most = seatOf(it.desk).settings.limits.openOrders, membersMost = member_.limits.membersOpenOrders;
-    if (most) needFewer(open_.sizeOf(it.desk) + underWay_.ordersOf(it.desk), most, "");
-    if (membersMost) needFewer(open_.size() + underWay_.ordersOf(ALL_DESKS), membersMost, " of all desks");
+    const auto there = [this](int desk) { return elsewhere_.openOrders(desk); };
+    if (most) needFewer(open_.sizeOf(it.desk) + there(it.desk) + underWay_.ordersOf(it.desk), most, "");
+    if (membersMost) needFewer(open_.size() + there(0) + underWay_.ordersOf(ALL_DESKS), membersMost, " of all desks");
 }
 
 void Trader::refuse(Seat &seat, const FIX::Message &message, const Request &it, const Refused &why) {
     counts_.refusals++;
-    if (Orders::isName(it.name) && !names_.isKnown(it.name, it.desk))
+    if (Orders::isName(it.name) && !isKnown(it.name, it.desk))
         names_.refuse(it.name, it.desk);  // Committed before it is told.
     const OpenOrder *const order = open_.find(names_.numberOf(it.original, it.desk));
     FIX::Message told = seat.reports.refusal(message, it, order, why.reason, why.what());
@@ -277,7 +327,8 @@ void Trader::send(const Seat &seat, FIX::Message &message) {
 void Trader::beginRecovery() {
     isRecovering_ = true;
     isReady_ = false;
-    hasSeenTold_ = !record_.state().told.report;
+    readSince_ = std::min(readSince_, Bucket::Clock::now());
+    hasSeenTold_ = !names_.state().told.report;
     lacking_ = 0;
     open_.clear();
     underWay_.clear();
@@ -294,8 +345,8 @@ void Trader::recovered(const char *line, std::size_t size) {
 /// The journal has the last report that the store has, or is another one, of which nothing may be told.
 void Trader::needTold() const {
     if (!hasSeenTold_)
-        throw std::runtime_error("its store has report " + std::to_string(record_.state().told.report) +
-                                 ", which the journal hasn't: that is another journal, or an older copy");
+        throw VenueFault("its store has report " + std::to_string(names_.state().told.report) +
+                         ", which the journal hasn't: that is another journal, or an older copy");
 }
 
 void Trader::endRecovery(const std::function<bool(int)> &hasClient) {
@@ -304,20 +355,27 @@ void Trader::endRecovery(const std::function<bool(int)> &hasClient) {
         say(member_.name(), "the journal has " + std::to_string(lacking_) + " requests, up to the number " +
                                 std::to_string(names_.last()) + ", whose names aren't here: of another client of its " +
                                 "port, or lost. Nothing has to be done for them");
+    // Cancels may have been lost, too. What the venue has told for the first time is of before: a client that is there
+    // has sent nothing of it, and may have come while the venue was away.
+    for (const auto &it : seats_) {
+        Seat &seat = *it.second;
+        const bool isAway = !hasClient(it.first) && seat.settings.limits.cancelOnDisconnect;
+        if (isAway && !seat.record.state().isSpared) seat.isCancelDue = true;
+        if (names_.own().isUnread() && seat.wasLeft) seat.isCancelDue = true;
+    }
     names_.isRead();
-    record_.isRead();
-    isRecovering_ = false;
+    names_.own().isRead();
+    names_.venueIsThere(true);
+    cancels_.venueBack();
+    isRecovering_ = hasFailed_ = false;
     isReady_ = true;
     takeHeld();
     if (!names_.unanswered(names_.last()).empty()) probe();
     else if (cancels_.isOwed()) probe();
-    // Cancels may have been lost, too.
-    for (const auto &it : seats_) {
-        Seat &seat = *it.second;
-        if (!hasClient(it.first) && seat.settings.limits.cancelOnDisconnect && !seat.record.state().isSpared)
-            seat.isCancelDue = true;
-        if (seat.isCancelDue) cancelAll(seat);
-    }
+    // Where nothing behind the cancels of a client that went is answered, they never came.
+    const long settled = names_.state().settled;
+    for (const auto &it : seats_)
+        if (it.second->isCancelDue || settled < it.second->cancelledTo) cancelAll(*it.second);
 }
 
 void Trader::heard(const Fields &message) {
@@ -352,6 +410,13 @@ bool Trader::hasToWait(const Fields &message) {
     return type == '3';
 }
 
+/// A venue that doesn't answer for long isn't waited for, nor one whose reading takes long.
+bool Trader::isReadFirst() const {
+    const bool isComing = link_.state() == VenueLink::State::LoggingOn && link_.waitsFor().empty();
+    const bool isLong = Bucket::Clock::now() - LONG_READING >= readSince_;
+    return (isRecovering_ || isComing) && names_.own().isUnread() && !hasFailed_ && !isLong;
+}
+
 bool Trader::holdsTooMuch() const {
     return heldBytes_ > MOST_HELD;
 }
@@ -361,6 +426,8 @@ void Trader::take(const Fields &report) {
     const char type = report.byte(35);
     if (type == '3' && !isRecovering_) rejected(report);
     if (type != '8' && type != '9') return;
+    if (!isRecovering_) needOwn(report);
+    else if (isOfAnother(report)) return;
     const long number = report.number(11);
     const bool isNamed = isRecovering_ ? names_.has(number) : number <= names_.last();
     if (!isNamed) lacks(number);
@@ -376,10 +443,35 @@ void Trader::take(const Fields &report) {
     counts_.openOrders = static_cast<long>(open_.size());
 }
 
+/// Each venue knows its symbols and, since its journal has been read, no numbers as great as those of what is sent to
+/// it. One for which that doesn't hold is another one, whose reports have other numbers.
+void Trader::needOwn(const Fields &report) const {
+    if (venue_.letter.empty()) return;
+    const bool isExecution = report.byte(35) == '8';
+    const long reason = report.number(isExecution ? 103 : 102);
+    const auto fail = [this](const std::string &why) {
+        throw VenueFault("the venue at its port " + why + ": VenuePort" + venue_.letter + " is another one's");
+    };
+    if (reason == DUPLICATE) fail("has had a request of the number " + std::to_string(report.number(11)));
+    if (!isExecution) return;
+    if (reason == UNKNOWN_SYMBOL) fail("doesn't know " + report.text(55));
+    if (!venue_.trades(report.text(55))) fail("tells of " + report.text(55));
+}
+
+/// Whether the journal tells this of a request that was meant for another venue, as one has it whose port was taken for
+/// another one's: of an order of a symbol that this venue doesn't have, or of a cancel by the number of a request that
+/// has been answered. Nothing of that is told.
+bool Trader::isOfAnother(const Fields &report) const {
+    if (venue_.letter.empty()) return false;
+    if (report.byte(35) == '8') return !venue_.trades(report.text(55));
+    const long number = report.number(11);
+    return number > names_.state().told.reject && number <= names_.state().settled;
+}
+
 /// The journal has a request that no name is of. A session that may be an older copy is told all behind it once more.
 void Trader::lacks(long number) {
     if (number <= names_.last()) return;  // It was noted before.
-    if (record_.isUnread() && record_.stepsBack())
+    if (names_.own().isUnread() && record_.stepsBack())
         throw std::runtime_error("the journal has requests that its record lacks: it begins anew");
     names_.note(number);
     lacking_++;
@@ -387,7 +479,7 @@ void Trader::lacks(long number) {
 
 /// Whether this report stands behind what the store has. All that the journal has in front of the last one were told.
 bool Trader::isBehindTold(const Fields &report) {
-    const Told &told = record_.state().told;
+    const Told &told = names_.state().told;
     if (report.byte(35) == '9') return hasSeenTold_ && report.number(11) > told.reject;
     const long number = report.number(17);
     if (number == told.report) hasSeenTold_ = true;
@@ -404,7 +496,7 @@ void Trader::tell(const Fields &report, Seat &seat) {
         seat.teller.tell(report.byte(35), seat.reports.of(report));
         counts_.reports++;
     }
-    Told &told = record_.change().told;
+    Told &told = names_.change().told;
     (isExecution ? told.report : told.reject) = number;
     counts_.lastReport = told.report;
 }
@@ -440,7 +532,7 @@ void Trader::probe() {
     if (!hasNumber()) return;
     const long number = names_.add(PROBE, Names::Kind::Probe);
     const std::string time = timeNow();
-    link_.send("F", probeFor(settings_.venue.symbols[0], number, time), time);
+    link_.send("F", probeFor(venue_.symbols[0], number, time), time);
     cancels_.probed(number);
     doubtTo_ = number;
     heardAt_ = Bucket::Clock::now();
@@ -491,13 +583,25 @@ void Trader::cancelAll(Seat &seat) {
     if (left)
         say(who, std::to_string(left) + " orders stay, though the member is away: the venue takes no greater number");
     seat.isCancelDue = false;
+    if (!all.empty()) seat.cancelledTo = names_.last();
+}
+
+void Trader::needNumbers() const {
+    needNumbersFor(orders().size());
+}
+
+bool Trader::hasNumbersFor(std::size_t count) const {
+    return names_.last() + static_cast<long>(count) + BESIDE <= Names::GREATEST;
+}
+
+void Trader::needNumbersFor(std::size_t count) const {
+    if (!hasNumbersFor(count)) throw Refused(OTHER, "the venue takes no greater number");
 }
 
 /// Sends a cancel for each order of a sweep: how many.
 std::size_t Trader::sweep(Sweep &it) {
     const std::map<long, OpenOrder> all = it.isOfDay() ? dayOrders() : orders();
-    if (names_.last() + static_cast<long>(all.size()) + BESIDE > Names::GREATEST)
-        throw Refused(OTHER, "the venue takes no greater number");
+    needNumbersFor(all.size());
     return cancels_.begin(it, all);
 }
 
@@ -510,10 +614,34 @@ Sweep Trader::cancelEach() {
 /// Tells the member how many cancels go to the venue for its mass cancel: each is answered by a report of its own.
 void Trader::massCancel(Seat &seat, const FIX::Message &message, const Request &it) {
     Sweep those{it.desk, it.symbol, it.side, it.name, ""};
-    const std::size_t count = sweep(those);
+    std::string words;
+    std::size_t count = sweep(those);
+    if (it.symbol.empty()) count += elsewhere_.sweep(those, words);
     const long number = names_.add(it.name, Names::Kind::MassCancel, it.desk);
     FIX::Message told = seat.reports.massCancelled(message, number, count);
+    if (!words.empty()) told.setField(FIX::FIELD::Text, SAID_BY_EDGE + words);
     send(seat, told);
+}
+
+std::size_t Trader::sweepAlong(const Sweep &it, std::string &words) {
+    const auto add = [&](const std::string &what) { words += (words.empty() ? "" : "; ") + venue_.letter + what; };
+    Sweep own = it;
+    own.upTo = own.known = own.row = own.last = 0;
+    if (!isReady_) {
+        cancels_.owe(own);
+        add(" isn't there: what rests there is cancelled once it is");
+        return 0;
+    }
+    try {
+        return sweep(own);
+    } catch (const Refused &why) {
+        add(std::string(" cancels nothing: ") + why.what());
+        return 0;
+    }
+}
+
+Sweep Trader::owe() {
+    return cancels_.owe(Sweep());
 }
 
 /// Sends the cancels of a sweep that nobody waits for, and says so.
@@ -530,8 +658,8 @@ void Trader::carryOut(Sweep &it) {
 
 /// Sends anew what is owed of sweeps, where the venue has answered all that was sent before.
 void Trader::sweepOwed() {
-    cancels_.answered(record_.state().settled);
-    for (Sweep &it : cancels_.takeOwed(record_.state().settled)) carryOut(it);
+    cancels_.answered(names_.state().settled);
+    for (Sweep &it : cancels_.takeOwed(names_.state().settled)) carryOut(it);
 }
 
 void Trader::endDay(const std::string &end) {
@@ -541,6 +669,7 @@ void Trader::endDay(const std::string &end) {
 }
 
 std::string Trader::restsOf(const Sweep &it) {
+    if (!venue_.letter.empty() && names_.own().isUnread()) return "what rests there isn't known";
     std::size_t count = 0;
     std::string names;
     for (const auto &order : orders()) {
@@ -566,6 +695,8 @@ void Trader::tidy() {
 }
 
 void Trader::venueLost() {
+    noteOpen();
+    names_.venueIsThere(false);
     isReady_ = isRecovering_ = false;
     held_.clear();
     heldBytes_ = 0;

@@ -9,7 +9,7 @@ namespace edge {
 
 namespace {
 
-constexpr char MESSAGE = 'm', NUMBERS = 'd';  // In the place of a name's kind. The second one is of a desk.
+constexpr char MESSAGE = 'm', NUMBERS = 'd', VENUE = 'v';  // In the place of a name's kind. The second is of a desk.
 constexpr std::size_t DIGITS = 18;
 
 /// A part of a row: what it is, its number, how many bytes it has, and these.
@@ -41,6 +41,7 @@ void Turns::index(KeptName it) {
     const bool isName =
         it.kind != static_cast<char>(Names::Kind::Probe) && it.kind != static_cast<char>(Names::Kind::Sweep);
     if (isName) byName_.emplace(it.name, names_.size());
+    byNumber_.emplace(it.number, names_.size());
     names_.push_back(std::move(it));
 }
 
@@ -51,6 +52,10 @@ void Turns::put(long place, const std::string &bytes) {
 
 void Turns::putNumbers(int desk, const std::string &numbers) {
     append(present_, NUMBERS, desk, numbers);
+}
+
+void Turns::putVenue(long place, const std::string &numbers) {
+    append(present_, VENUE, place, numbers);
 }
 
 void Turns::kept() {
@@ -66,8 +71,9 @@ bool Turns::take(const std::string &row, long at, const TakeNumbers &takeNumbers
         if (static_cast<std::size_t>(size) > row.size() - from) return false;
         std::string bytes = row.substr(from, static_cast<std::size_t>(size));
         from += static_cast<std::size_t>(size);
-        if (kind == NUMBERS && !takeNumbers(number, bytes)) return false;
-        if (kind == NUMBERS) continue;
+        const bool isNumbers = kind == NUMBERS || kind == VENUE;
+        if (isNumbers && !takeNumbers(kind == VENUE, number, bytes)) return false;
+        if (isNumbers) continue;
         if (kind == MESSAGE) messages_.push_back({number, std::move(bytes)});
         else index({number, kind, std::move(bytes), at});
     }
@@ -76,9 +82,8 @@ bool Turns::take(const std::string &row, long at, const TakeNumbers &takeNumbers
 }
 
 const KeptName *Turns::ofNumber(long number) const {
-    const auto isBelow = [](const KeptName &it, long than) { return it.number < than; };
-    const auto found = std::lower_bound(names_.begin(), names_.end(), number, isBelow);
-    return found != names_.end() && found->number == number ? &*found : nullptr;
+    const auto found = byNumber_.find(number);
+    return found == byNumber_.end() ? nullptr : &names_[found->second];
 }
 
 const KeptName *Turns::ofName(const std::string &name) const {
@@ -95,6 +100,7 @@ void Turns::each(const std::function<void(const KeptName &)> &name,
 void Turns::clear() {
     names_.clear();
     byName_.clear();
+    byNumber_.clear();
     messages_.clear();
     present_.clear();
     rows_ = 0;

@@ -26,8 +26,10 @@ public:
     void add(KeptName it);
     void put(long place, const std::string &bytes);
 
-    /// Puts the numbers that the session of a desk has behind the present turn. They stand in its row alone.
+    /// Puts the numbers that the session of a desk has behind the present turn, or a venue at this place of the record.
+    /// They stand in its row alone.
     void putNumbers(int desk, const std::string &numbers);
+    void putVenue(long place, const std::string &numbers);
 
     /// What the present turn wrote, in the bytes of its row.
     const std::string &present() const { return present_; }
@@ -35,9 +37,9 @@ public:
     /// The present turn is kept, so the next one begins.
     void kept();
 
-    /// Takes in the row of a turn that was kept in this second, and calls this for the numbers of a desk's session,
-    /// which says whether it can read them. Whether the row is whole.
-    using TakeNumbers = std::function<bool(long, const std::string &)>;
+    /// Takes in the row of a turn that was kept in this second, and calls this for the numbers of a desk's session, or
+    /// of a venue, which says whether it can read them. Whether the row is whole.
+    using TakeNumbers = std::function<bool(bool isOfVenue, long, const std::string &)>;
     bool take(const std::string &row, long at, const TakeNumbers &takeNumbers);
 
     /// The name of this number, or nothing; and the first one that went to the venue or was refused by this text.
@@ -62,8 +64,9 @@ private:
 
     void index(KeptName it);
 
-    std::vector<KeptName> names_;  // Their numbers rise.
+    std::vector<KeptName> names_;
     std::unordered_map<std::string, std::size_t> byName_;
+    std::unordered_map<long, std::size_t> byNumber_;
     std::vector<Message> messages_;
     std::string present_;
     long rows_ = 0;

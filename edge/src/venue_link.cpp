@@ -1,5 +1,6 @@
 #include "venue_link.h"
 
+#include <arpa/inet.h>
 #include <netinet/in.h>
 #include <netinet/tcp.h>
 #include <sys/socket.h>
@@ -19,7 +20,8 @@ constexpr std::size_t USUAL = 256;           // Hardly any message to it has mor
 constexpr std::chrono::seconds PATIENCE(5);  // For its answer to the Logon, which needs no disk.
 }
 
-VenueLink::VenueLink(int port, const std::string &member) : port_(port), member_(member) {}
+VenueLink::VenueLink(const std::string &host, int port, const std::string &member)
+    : host_(host), port_(port), member_(member) {}
 
 void VenueLink::connect() {
     end();
@@ -33,7 +35,7 @@ void VenueLink::connect() {
     sockaddr_in address{};
     address.sin_family = AF_INET;
     address.sin_port = htons(static_cast<std::uint16_t>(port_));
-    address.sin_addr.s_addr = htonl(INADDR_LOOPBACK);
+    ::inet_pton(AF_INET, host_.c_str(), &address.sin_addr);  // It is an address, by the settings.
     const int done = ::connect(socket_.get(), reinterpret_cast<const sockaddr *>(&address), sizeof address);
     if (done && errno != EINPROGRESS) {
         fail(notConnected());
@@ -77,6 +79,9 @@ bool VenueLink::flush() {
             errno = fault;
             return fail(notConnected());
         }
+        sockaddr_in peer{};
+        socklen_t length = sizeof peer;
+        if (::getpeername(socket_.get(), reinterpret_cast<sockaddr *>(&peer), &length)) return true;  // It isn't made yet.
         state_ = State::LoggingOn;
         loggingOnSince_ = Clock::now();
         send("A", "98=0\001108=0\001141=Y\1", timeNow());

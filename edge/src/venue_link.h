@@ -16,7 +16,8 @@ class VenueLink {
 public:
     enum class State { Down, Connecting, LoggingOn, Up };
 
-    VenueLink(int port, const std::string &member);
+    /// Of the port of this member at an address.
+    VenueLink(const std::string &host, int port, const std::string &member);
 
     /// Begins to connect.
     void connect();
@@ -57,6 +58,7 @@ private:
     bool fail(const std::string &why);
     bool take(const Fields &message, const std::function<void(const Fields &)> &told);
 
+    const std::string host_;
     const int port_;
     const std::string member_;
     Descriptor socket_;

@@ -1,14 +1,13 @@
-"""How the edge is built: edge/setup fails where the compiler does, the program is hardened, and edge/check says what lacks. And
-that each wrong version can be planted."""
+"""How the edge is built: edge/setup fails where the compiler does, the program is hardened, and edge/check says what lacks."""
 import os
 import shutil
 import subprocess
 import sys
 
 import sanitized
+import traces
 from edges import EDGE, ROOT, Trouble
 from trading_tests import expect
-from wrong_versions import WRONG
 
 NOT_COPIED = shutil.ignore_patterns("out", "out-*", "__pycache__")
 
@@ -50,6 +49,11 @@ def test_hardened() -> None:
         raise Trouble("its stack may be executed")
 
 
+def test_traces() -> None:
+    """The program tells neither the folder nor the day that it was built in: built in another one it has the same bytes."""
+    traces.need_none(EDGE)
+
+
 def test_unbuilt() -> None:
     """edge/check says what isn't built, and by which words it is; its own words it says all the same."""
     for name in ("edge", "dev", "tools", "scripts"):
@@ -68,11 +72,4 @@ def test_unbuilt() -> None:
         expect((ran.returncode, "edge/check [NAME...]" in ran.stdout, ran.stderr), (0, True, ""))
 
 
-def test_wrong_versions() -> None:
-    """The text that a wrong version changes stands once in its source, whichever of them wrong_edges.py comes to."""
-    for name, it in WRONG.items():
-        with open(f"{ROOT}/edge/src/{it.source}{'.h' if it.by else '.cpp'}", encoding="utf-8") as file:
-            expect((name, file.read().count(it.old)), (name, 1))
-
-
-TESTS = [test_compile_error, test_hardened, test_unbuilt, test_wrong_versions]
+TESTS = [test_compile_error, test_hardened, test_traces, test_unbuilt]

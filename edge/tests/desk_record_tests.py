@@ -8,6 +8,7 @@ import sqlite3
 import threading
 import time
 
+from copy_tests import await_more
 from desk_tests import NOBODYS, Session, desks, has, names_told, on, put, refused, said, session, stored
 from edges import EVENTS, PATIENCE, Edge, again, await_that, changed, path_of, rows, settings_of, venue_order
 from engines import GTC, Engine, cancel, order
@@ -147,8 +148,8 @@ def test_unreadable_desks_of_one_member() -> None:
         pass
     expect(said(text), (1, f"gikvand-edge: {wrong}\n"))
     edge = Edge(text)
-    edge.hears(f"C1: {wrong}")
     edge.hears("C2: serves, behind report")
+    edge.hears(f"C1: {wrong}")  # (at each start of its process anew)
     on(port, 3)
     with open(KEPT, "w", encoding="ascii") as file:
         file.write(right)
@@ -231,8 +232,8 @@ def puts_back(folder: str) -> None:
 
 
 def away_with(count: int) -> Market:
-    """An edge with two desks, and many reports of an order of the second one, which is away."""
-    market = Market("2030-01-01 23:59:00", others=lambda port: [session("C1.2", 2, port)], wait=False)
+    """An edge with two desks, and many reports of an order of the second one, which is away. They take their time: it is noon."""
+    market = Market("2030-01-01 12:00:00", others=lambda port: [session("C1.2", 2, port)], wait=False)
     market.edge.ready()
     two, = on(market.port, 2)
     put(two, "a", quantity=1000000, more=GTC)
@@ -240,7 +241,7 @@ def away_with(count: int) -> Market:
     two.close()
     await_that("its end", lambda: market.lines("C1.2: the client from"))
     sell_many(market, count)
-    await_that("all is stored", lambda: fills(2) == count)
+    await_more("all is stored", lambda: fills(2), count)
     return market
 
 
@@ -433,7 +434,7 @@ def test_trades_beside_a_long_backlog() -> None:
     def came() -> list[str]:
         return [it for it in two.history if value(it, "150") == "F"]
 
-    await_that("all reports", lambda: two.pump(0.05) and len(came()) >= market.sold)
+    await_more("all reports", lambda: two.pump(0.05) and len(came()), market.sold)
     two.settle()
     marked = [value(it, "97") for it in came()]
     expect([value(it, "151") for it in came()], [str(1000000 - at) for at in range(1, market.sold + 1)])

@@ -9,13 +9,12 @@ import signal
 import socket
 import sqlite3
 import subprocess
-import urllib.request
 from collections.abc import Iterable
 from typing import Any
 
 from differential import ENDED, STEP, Run, ended, is_same, names_of, refused_by, told_by
-from edges import COPIES, EDGE, JOURNAL, NAMES, PATIENCE, SYMBOLS, Edge, Trouble, again, await_that, changed, free_port
-from edges import path_of, rows, settings_of, started, told
+from edges import COPIES, EDGE, JOURNAL, NAMES, SYMBOLS, Edge, Trouble, again, await_that, changed, free_port
+from edges import page_at, path_of, rows, settings_of, started, told
 from engines import GTC, Engine, at_once, cancel, order, replace
 from gikvand.fix import fields_of, value
 from gikvand.words import sure
@@ -292,12 +291,9 @@ def test_page_of_desks() -> None:
     one, = on(port, 1)
     put(one, "a")
 
-    def told(what: str) -> str:
-        with urllib.request.urlopen(f"http://127.0.0.1:{page}/{what}", timeout=PATIENCE) as answer:
-            return str(answer.read().decode())
-    line = told("")
+    line = page_at(page)
     expect(("C1 (DESK-A): serves, logged on, " in line, "; C1.2 (DESK-B): away, 0 bytes not taken, numbers since " in line), (True, True))
-    figures = told("metrics").splitlines()
+    figures = page_at(page, "metrics").splitlines()
     expect([it for it in figures if it.startswith("gikvand_edge_logged_on{")],
            ['gikvand_edge_logged_on{member="C1"} 1', 'gikvand_edge_logged_on{member="C1",desk="2"} 0'])
 

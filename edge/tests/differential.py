@@ -97,11 +97,14 @@ def wanted_of(member: int, folder: str = "edge") -> list[dict[str, str]]:
     wanted = []
     for line in lines:
         it = fields_of(line)
-        if it["35"] == "9" and kinds[int(it["11"])] in "ep":
+        if (kind := kinds.get(int(it["11"]))) is None:
+            raise Trouble(f"C{member}: the record has no name of the journal's request {it['11']}; it has {len(names)}, the last of "
+                          f"{max(names, default=0)}")
+        if it["35"] == "9" and kind in "ep":
             continue
-        if kinds[int(it["11"])] == "o" and it["35"] == "8":
+        if kind == "o" and it["35"] == "8":
             it["58"] = BY_OPERATOR
-        if kinds[int(it["11"])] == "e":
+        if kind == "e":
             it.update({"11": it.pop("41"), "150": "C", "39": "C", "58": ENDED})
         for tag in ("11", "41"):
             if tag in it:

@@ -13,8 +13,9 @@ import sys
 import tempfile
 import threading
 import time
+import urllib.request
 from collections.abc import Callable, Iterable, Iterator, Mapping, Sequence
-from typing import Any, TypeVar
+from typing import Any, NamedTuple, TypeVar
 
 ROOT = os.path.dirname(os.path.dirname(os.path.dirname(os.path.abspath(__file__))))
 sys.path.insert(0, os.path.join(ROOT, "dev"))
@@ -156,14 +157,17 @@ class Edge:
             raise Trouble(f"status {status} of an edge that was stopped")
 
     def kill(self) -> None:
-        """Kills all its processes at once, and waits until the last one has gone. None is left, whatever fails."""
+        """Kills all its processes at once, and waits until the last one has gone. None is left, whatever fails. Where its first process has
+        ended before, the number may be another program's by now: its group is killed where a process of it is an edge's."""
+        has_ended = self.process.poll() is not None
         try:
             with contextlib.suppress(ProcessLookupError, FileNotFoundError):
-                if self.process.poll() is None:
+                if not has_ended:
                     freeze(self.process.pid)  # It starts none anew.
         finally:
             children, end = children_of(self.process.pid).values(), time.monotonic() + PATIENCE
-            for group in (*children, self.process.pid):
+            own = {it.group for it in all_processes() if it.group == self.process.pid and (not has_ended or it.is_of_an_edge())}
+            for group in (*children, *own):
                 with contextlib.suppress(ProcessLookupError):
                     os.killpg(group, signal.SIGKILL)
             self.process.wait()
@@ -181,18 +185,34 @@ def is_there(process: int | str) -> bool:
         return False
 
 
-def processes_below(process: int) -> Iterator[tuple[int, list[str]]]:
-    """The processes that this one has started and that run, each with its words."""
+class Running(NamedTuple):
+    """A process that runs: its number, its parent's, its group's, and its words."""
+    pid: int
+    parent: int
+    group: int
+    words: list[str]
+
+    def is_of_an_edge(self) -> bool:
+        return any("gikvand-" in it for it in self.words)
+
+
+def all_processes() -> Iterator[Running]:
+    """All processes that run."""
     for entry in filter(str.isdecimal, os.listdir("/proc")):
         try:
             with open(f"/proc/{entry}/stat", encoding="ascii", errors="replace") as file:
-                state, parent = file.read().rpartition(")")[2].split()[:2]
+                state, parent, group = file.read().rpartition(")")[2].split()[:3]
             with open(f"/proc/{entry}/cmdline", encoding="ascii", errors="replace") as file:
                 words = file.read().split("\0")
         except OSError:
             continue
-        if int(parent) == process and state != "Z":
-            yield int(entry), words
+        if state != "Z":
+            yield Running(int(entry), int(parent), int(group), words)
+
+
+def processes_below(process: int) -> Iterator[tuple[int, list[str]]]:
+    """The processes that this one has started and that run, each with its words."""
+    return ((it.pid, it.words) for it in all_processes() if it.parent == process)
 
 
 def children_of(process: int) -> dict[str, int]:
@@ -268,6 +288,20 @@ def session_files(member: int, folder: str) -> str:
     return os.path.join(folder, f"C{member}", f"FIX.4.4-GIKVAND-{NAMES[member]}.")
 
 
+def page_at(port: int, what: str = "") -> str:
+    """What the page at this port says. Who connects and asks half a second later, as a machine that stands still, is let go: it asks
+    again."""
+    end = time.monotonic() + PATIENCE
+    while True:
+        try:
+            with urllib.request.urlopen(f"http://127.0.0.1:{port}/{what}", timeout=PATIENCE) as answer:
+                return str(answer.read().decode())
+        except OSError:
+            if time.monotonic() > end:
+                raise
+        time.sleep(0.05)
+
+
 @contextlib.contextmanager
 def halted() -> Iterator[None]:
     """All edges that run stand still meanwhile, so that their files are those of one moment."""
@@ -317,6 +351,9 @@ def fold(record: sqlite3.Connection) -> None:
             if kind == b"d":
                 sender, target, heard = map(int, data.split())
                 record.execute("UPDATE desks SET sender = ?, target = ?, heard = ? WHERE desk = ?", (sender, target, heard, int(number)))
+            elif kind == b"v":
+                record.execute("UPDATE venues SET report = ?, reject = ?, last = ?, settled = ? WHERE place = ?",
+                               (*map(int, data.split()), int(number)))
             elif kind == b"m":
                 record.execute("INSERT OR REPLACE INTO messages VALUES (?, ?)", (int(number), data))
             else:

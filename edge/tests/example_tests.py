@@ -3,6 +3,8 @@ import contextlib
 import os
 import queue
 import shutil
+import signal
+import socket
 import subprocess
 import sys
 import threading
@@ -16,7 +18,8 @@ from gikvand.words import sure
 from switch_tests import done
 from takers import entries_of
 from tradeclients import STOCK
-from trading_tests import expect, logged
+from trading_tests import expect, logged, rejects
+from venues import await_that
 
 EXAMPLES = os.path.join(ROOT, "examples")
 MEMBER = 2  # Which the example is; the first one trades with it.
@@ -103,6 +106,9 @@ def plays(words: Sequence[str]) -> None:
     done("resume ABC", "C1: ABC trades again", "C2: ABC trades again")
     one.hears(_35="f", _55="ABC", _326="3")
     one.end()
+    if words[0] == QUICKFIX:
+        one.hears(_35="5")
+        expect(one.hears("logged out"), "logged out")
     two = Example(words, port)
     two.hears("logged on")
     second = value(two.hears(_35="8", _150="0"), "11")
@@ -114,8 +120,7 @@ def plays(words: Sequence[str]) -> None:
     expect(value(missed, "43"), "Y")
     three.hears(_35="W", _262="market")
     three.end()
-    said = [line for line in logged(MEMBER) if f"|49={NAME}|" in line]
-    if wrong := [line for line in said if "|35=3|" in line or "|35=j|" in line]:
+    if wrong := [line for line in rejects(logged(MEMBER)) if f"|49={NAME}|" in line]:
         raise Trouble(f"{words[0]} rejects what it was told: {wrong[0]}")
 
 
@@ -124,7 +129,7 @@ def refuses(words: Sequence[str], edge: Edge, port: int) -> None:
     away: behind a gap it doesn't send its first order again."""
     one = Example(words, port, "another")
     if words[0] == QUICKFIX:
-        one.hears("logged out")
+        one.hears("logged out: the Logon wasn't taken")
         one.end()
     else:
         expect(one.process.wait(PATIENCE), 1)
@@ -161,8 +166,28 @@ def needs(tool: str, package: str) -> bool:
     return False
 
 
+IN_PYTHON = (sys.executable, os.path.join(EXAMPLES, "member.py"), "{port}", "{name}")
+
+
 def test_example_in_python() -> None:
-    plays([sys.executable, os.path.join(EXAMPLES, "member.py"), "{port}", "{name}"])
+    plays(IN_PYTHON)
+
+
+def test_interrupted_example() -> None:
+    """Ctrl-C lets the one in Python log out, and ends it at once where it isn't let in."""
+    _, edge, port = pair(2)
+    one = Example(IN_PYTHON, port)
+    one.hears(_35="8", _150="0")
+    one.process.send_signal(signal.SIGINT)
+    expect(one.process.wait(PATIENCE), 0)
+    await_that("its Logout", lambda: f"|35=5|34=4|49={NAME}|" in " ".join(logged(MEMBER)))
+    edge.stop()
+    with socket.create_server(("127.0.0.1", port + MEMBER - 1)) as deaf:
+        other = Example(IN_PYTHON, port)
+        with deaf.accept()[0] as it:
+            expect(b"35=A" in it.recv(1000), True)
+            other.process.send_signal(signal.SIGINT)
+            expect(other.process.wait(PATIENCE), 1)
 
 
 def test_example_in_java() -> None:
@@ -188,4 +213,4 @@ def test_example_on_quickfix() -> None:
         raise Trouble(f"the example was told no {lacking}")
 
 
-TESTS = [test_example_in_python, test_example_in_java, test_example_in_go, test_example_on_quickfix]
+TESTS = [test_example_in_python, test_interrupted_example, test_example_in_java, test_example_in_go, test_example_on_quickfix]

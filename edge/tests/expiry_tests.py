@@ -18,7 +18,7 @@ from market import SELLER, Market, await_heard, is_caught_up, kept, leave, of_jo
 from process_tests import STUCK, other_events
 from switch_tests import Call, is_kept, mass
 from tradeclients import GTC as GTC_OF_STOCK, TradeClient
-from trading_tests import expect
+from trading_tests import expect, logged, rejects
 
 EVENING, OVER, MORNING = "2030-01-01 21:59:00", "2030-01-01 22:00:00", "2030-01-02 06:00:01"
 NEXT_EVENING, NEXT_OVER = "2030-01-02 21:59:30", "2030-01-02 22:00:00"
@@ -118,8 +118,7 @@ def test_day_played_through() -> None:
     market.clock.put("2030-01-03 06:00:01")
     client.logged_on(3)
     client.report(_150="C", _11="next")
-    with open("log/C1/FIX.4.4-GIKVAND-DESK-A.messages.current.log", encoding="ascii") as file:
-        expect([line for line in file if "|35=3|" in line.replace("\1", "|")], [])
+    expect(rejects(logged(1)), [])
 
 
 def test_terms() -> None:

@@ -23,7 +23,7 @@ TARGETS: dict[str, tuple[tuple[str, ...], list[bytes]]] = {
     "ticks": (("ticks",), [b"0.01\n50.25\n100\n", b"0.000000001\n0.5\n1.00\n", b"1000\n5000\n1000000\n"]),
     "settings": (("settings", "setting_values", "order_limits", "hours", "identity", "stunnel", "schedule", "steps", "ticks"), []),
     "names": (("take_over",), [NAMES]),
-    "commands": (("commands",), [b"stop", b"resume", b"cancel", b"status", b"halt ABC", b"resume XYZ"]),
+    "commands": (("commands",), [b"stop", b"resume", b"cancel", b"status", b"halt ABC", b"resume XYZ", b"names 5 B"]),
 }
 
 

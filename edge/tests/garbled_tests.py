@@ -240,7 +240,7 @@ def test_longest() -> None:
         expect(value(parted(it.recv(65536))[0][0], "35"), "A")
     edge.hears("the client closed the connection")
     expect(sent(port, sized(257, "A", 1, "98=0|108=30|141=Y|553")), b"")
-    edge.hears("no FIX message, or too long a one")
+    edge.hears("no message of FIX.4.4, or too long a one")
 
 
 def test_garbled_strangers() -> None:
@@ -249,7 +249,7 @@ def test_garbled_strangers() -> None:
     for data in (b"junk" + LOGON, b"\r\n" + LOGON, BAD + LOGON, LOGON[:-4] + b"999\x01" + LOGON, LOGON[20:] + LOGON,
                  LOGON.replace(b"FIX.4.4", b"FIX.4.2") + LOGON, b"x"):
         expect(sent(port, data), b"")
-        edge.hears("is let go: what came is no FIX message")
+        edge.hears("is let go: what came is no message of FIX.4.4")
     expect(sent(port, framed(f"35=A|34=1|{PARTIES}98=0|108=|") + LOGON), b"")
     edge.hears("is let go: its first message can't be read: field 108 has no value")
     Player(port).socket.close()

@@ -2,10 +2,9 @@
 logs on outside of them. No order is cancelled by that."""
 import os
 import time
-import urllib.request
 
 from clocks import Clock
-from edges import PATIENCE, Client, again, await_that, free_port, told
+from edges import PATIENCE, Client, again, await_that, free_port, page_at, told
 from engines import GTC, order
 from gikvand.fix import value
 from gikvand.words import sure
@@ -149,14 +148,8 @@ def test_page() -> None:
     page = free_port(1)
     market = Market("2030-01-01 23:59:00", HttpAcceptPort=page)
     market.new_day("2030-01-02 00:00:00")
-
-    def shown() -> str:
-        with urllib.request.urlopen(f"http://127.0.0.1:{page}/", timeout=10) as it:
-            return it.read().decode().strip()
-    expect(", numbers since 20300102-00:00:" in shown(), True)
-    with urllib.request.urlopen(f"http://127.0.0.1:{page}/metrics", timeout=10) as it:
-        figures = it.read().decode()
-    expect('gikvand_edge_day_began_seconds{member="C1"} 18935424' in figures, True)
+    expect(", numbers since 20300102-00:00:" in page_at(page), True)
+    expect('gikvand_edge_day_began_seconds{member="C1"} 18935424' in page_at(page, "metrics"), True)
 
 
 TESTS = [test_week, test_once, test_orders_stay, test_stock_engine_at_night, test_page]

@@ -6,13 +6,12 @@ import signal
 import socket
 import threading
 import time
-import urllib.request
 from collections.abc import Iterator, Mapping, Sequence
 from decimal import Decimal
 
 from differential import MEMBERS, Run, are_refused, compare, is_same, refused_by, told_by, wanted_of
 from edges import EVENTS, JOURNAL, PATIENCE, SYMBOLS, Client, Edge, Trouble, Venue, again, await_that, free_port, freeze, members_of
-from edges import children_of, in_folders, is_there, processes_below, settings_of, started, stored, told, venue_order
+from edges import children_of, in_folders, is_there, page_at, processes_below, settings_of, started, stored, told, venue_order
 from engines import GTC, Engine, cancel, order, replace
 from gikvand.fix import fields_of, value
 from gikvand.words import sure
@@ -20,7 +19,7 @@ from relay import Relay
 from recovery_tests import restarted
 from switch_tests import called, is_refused
 from tradeclients import TradeClient
-from trading_tests import expect, logged
+from trading_tests import expect, logged, rejects
 from venues import Late
 
 EXCEEDS, OPTION = "3", "0"  # Reasons of 103.
@@ -85,7 +84,9 @@ def agrees(*engines: Engine) -> None:
     """What each of these was told, and its record has, is what the journal has: no refusal is told twice, or traded."""
     for k, it in enumerate(engines, 1):
         it.settle()
-        wanted = wanted_of(k)
+        wanted, end = wanted_of(k), time.monotonic() + PATIENCE
+        while len(told_by(it.history)) < len(wanted) and time.monotonic() < end:  # Another member may have been told before it.
+            it.pump(0.1)
         is_same(k, told_by(stored(k)), wanted, "its record")
         is_same(k, told_by(it.history), wanted, "what it was sent")
         are_refused(k, refused_by(stored(k)), "its record")
@@ -904,8 +905,7 @@ def test_figures() -> None:
     await_that("its client has taken all", lambda: ", 0 bytes not taken, " in called("status C1")[1])
     status, out, err = called("status C1")
     expect((status, out.rpartition(" ")[0], err), (0, words, ""))
-    with urllib.request.urlopen(f"http://127.0.0.1:{page}/metrics", timeout=PATIENCE) as answer:
-        figures = answer.read().decode().splitlines()
+    figures = page_at(page, "metrics").splitlines()
     by = 'gikvand_edge_limit_refusals_total{{member="C1",limit="{}"}} {}'
     counts = {"TradeSymbols": 1, "MaxOrderQuantity": 3, "MaxOrderValue": 0, "PriceCollar": 0, "OnlyClosing": 0,
               "MaxOpenValue": 0, "MemberMaxOpenValue": 0, "SelfTrade": 0}
@@ -954,7 +954,7 @@ def test_tradeclient_with_limits() -> None:
     edge = with_limits(edge, OnlyClosing="Y")
     one.logged_on(3)
     no("q", 2, 1, "55", OPTION, closes("sale", 1, 0, 0))
-    if wrong := [line for line in logged(1) if "|35=3|" in line or "|35=j|" in line]:
+    if wrong := rejects(logged(1)):
         raise Trouble(f"something was rejected: {wrong[0]}")
     is_same(1, told_by(stored(1)), wanted_of(1), "its record")
     are_refused(1, refused_by(stored(1)), "its record")

@@ -26,7 +26,7 @@ def test_lines() -> None:
     for _ in range(200):
         expect(sent(port, b"junk" * 10), b"")
     took = time.monotonic() - begin
-    said = lambda: [line for line in edge.lines if "what came is no FIX message" in line]
+    said = lambda: [line for line in edge.lines if "what came is no message of FIX.4.4" in line]
     counts = lambda: [int(found[1]) for line in edge.lines if (found := re.search(r"C1: (\d+) more lines like this one", line))]
     wait_until("all lines counted", lambda: len(said()) + sum(counts()) == 200)
     if len(said()) > 20 * (took + 2) or (took < 8 and not counts()):  # In more time each of them may be said.

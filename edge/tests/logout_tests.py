@@ -214,7 +214,9 @@ def ends(edge: Edge, seller: Seller, one: Stock, wanted: list[str]) -> None:
     one.ends("edge: 10 messages in a row can't be read")
     one.out -= 2
     one.connect().send("A", "98=0|108=30|")
-    one.ends(f"MsgSeqNum too low, expecting {one.out + 1} but received {one.out - 1}")
+    why = f"MsgSeqNum too low, expecting {one.out + 1} but received {one.out - 1}"
+    one.ends(why)
+    expect([it.partition(" is refused: ")[2] for it in edge.lines if "C1: a Logon from 127.0.0.1:" in it][-1:], [why])
     one.out += 1
     one.log_on()
     edge.stop()

@@ -289,6 +289,7 @@ def test_told_before_too_low() -> None:
     number = value(one.came[-1], "34")
     other.send("D", order("s", 2, 10, "50"))
     other.report(_150="F", _11="s")
+    await_that("its fill", lambda: [value(it, "150") for it in stored(1)].count("F") == 1)  # Which its own process takes.
     one.send("5", f"58=MsgSeqNum too low, expecting 5000 but received {number}|")
     edge.hears("the numbers go on with 5000, and 1 reports that it wasn't sent are told again")
     one.close()
@@ -316,6 +317,34 @@ def test_words_of_another_day() -> None:
     one.next = out - 1
     one.log_on().report(_150="F")
     expect(ids(one.history), ids(told(1)))
+
+
+class Waiting(Engine):
+    """An engine that sends nothing again before it has all that it lacks itself."""
+    asked: int | None = None
+
+    def send_again(self, first: int) -> None:
+        self.asked = first
+
+    def pump(self, seconds: float = 0.0) -> bool:
+        stands = super().pump(seconds)
+        if self.asked is not None and self.next > self.greatest:
+            first, self.asked = self.asked, None
+            super().send_again(first)
+        return stands
+
+
+def test_long_resend_before_the_first_number() -> None:
+    """An engine asks for more than a piece of numbers while the edge awaits its first one, as where both lack some behind a power cut. No
+    piece counts as that first number, and the engine, which fills it then, trades on."""
+    _, _, port = pair()
+    set_to(1500, 1)
+    one = Waiting(port)
+    one.send("0")  # Which nobody hears.
+    one.log_on()
+    resting(one, "a")
+    one.settle()
+    expect((shown()[1], 1), (one.out, sum(kind == "2" for kind, _ in one.sent.values())))
 
 
 def test_in_front_of_the_journal() -> None:
@@ -500,5 +529,5 @@ def edge_that_holds(folder: str) -> Iterator[None]:
 TESTS = [test_shown_and_set, test_numbers_not_set, test_in_behind_all_numbers, test_numbers_not_kept, test_unsent_reports,
          test_too_low_told,
          test_engine_of_another_day, test_engine_a_little_ahead,
-         test_told_before_too_low, test_words_of_another_day, test_in_front_of_the_journal, test_numbers_over_a_day, test_lost_store,
+         test_told_before_too_low, test_words_of_another_day, test_long_resend_before_the_first_number, test_in_front_of_the_journal, test_numbers_over_a_day, test_lost_store,
          test_lost_store_beside_others, test_numbers_without_a_process]

@@ -8,10 +8,12 @@
 //                 `processes` a line for each process of the edge
 //   POWER_AT      the number of the call at which power is cut, from 1, of those of one process that write, sync or
 //                 send: all processes of the edge are killed in its place. Nothing: they never are
+//   POWER_ALONE   where this is set that process alone is killed in the place of that call, and the power stays on
 //   POWER_ARMED   a file; where this is set, only calls are counted that are made while the file is there
 //   POWER_SOME    a number, that of a chance by which some of what wasn't synced reaches the disk all the same
 //   POWER_TOLD    a file that gets a line for each call: `write` and `sync` with the file's name; `send` and `recv` with
-//                 the type of the first message, its ClOrdID, and how many writes haven't been synced
+//                 the type of the first message, its ClOrdID, and how many writes haven't been synced; `late` where
+//                 another process is cutting the power
 //   POWER_BOOT    what the program reads as the words of the system's run (boot_id)
 #define _GNU_SOURCE
 #include <dirent.h>
@@ -34,7 +36,7 @@ enum { MOST_FILES = 1024, MOST_PIECES = 1 << 14 };
 
 static const char *folder, *disk, *told, *boot, *armed;
 static long cut_at, calls;
-static int has_chance;
+static int has_chance, is_alone;
 static unsigned chance;
 static pthread_mutex_t lock = PTHREAD_MUTEX_INITIALIZER;
 static char names[MOST_FILES][NAME_MAX + 1];  // Of the files below the folder, as C1/C1.db, by their descriptors.
@@ -48,6 +50,8 @@ struct piece {
 };
 static struct piece pieces[MOST_PIECES];
 static int many;
+static ino_t ours[MOST_FILES];  // Files of which all that isn't synced was written by this process.
+static int many_ours;
 
 __attribute__((constructor)) static void begin(void) {
     char own[PATH_MAX], *name;
@@ -62,6 +66,7 @@ __attribute__((constructor)) static void begin(void) {
     boot = getenv("POWER_BOOT");
     armed = getenv("POWER_ARMED");
     cut_at = getenv("POWER_AT") ? atol(getenv("POWER_AT")) : 0;
+    is_alone = getenv("POWER_ALONE") != NULL;
     has_chance = getenv("POWER_SOME") != NULL;
     chance = has_chance ? (unsigned)atoi(getenv("POWER_SOME")) : 0;
     if (!disk)
@@ -84,6 +89,13 @@ static void say(const char *what, const char *more) {
     syscall(SYS_close, file);
 }
 
+// Ends this process with a line that power.py looks for: what a full disk takes from the played one would else be taken
+// for the edge's doing.
+static void fail(const char *why) {
+    dprintf(STDERR_FILENO, "power.c: %s: %s\n", why, strerror(errno));
+    abort();
+}
+
 // The file that holds what the disk has of this one, by its number on the real disk.
 static int open_held(ino_t file) {
     char path[PATH_MAX];
@@ -98,10 +110,24 @@ static void keep(int from, int into, off_t at, off_t size) {
         ssize_t count = syscall(SYS_pread64, from, data, size < (off_t)sizeof data ? size : (off_t)sizeof data, at);
         if (count <= 0)
             return;
-        syscall(SYS_pwrite64, into, data, count, at);
+        if (syscall(SYS_pwrite64, into, data, count, at) != count)
+            fail("what was synced can't be kept");
         at += count;
         size -= count;
     }
+}
+
+// Whether a file is among ours, from now on or no longer.
+static int set_ours(ino_t file, int is_so) {
+    int i = 0;
+    while (i < many_ours && ours[i] != file)
+        i++;
+    const int was_so = i < many_ours;
+    if (is_so && !was_so && many_ours < MOST_FILES)
+        ours[many_ours++] = file;
+    if (!is_so && was_so)
+        ours[i] = ours[--many_ours];
+    return was_so;
 }
 
 static void sync_file(int file) {
@@ -109,6 +135,8 @@ static void sync_file(int file) {
     if (syscall(SYS_fstat, file, &it))
         return;
     int held = open_held(it.st_ino), left = 0;
+    if (!set_ours(it.st_ino, 1))  // What a process that is gone has left in the system's memory is synced with it.
+        keep(file, held, 0, it.st_size);
     for (int i = 0; i < many; i++) {
         if (pieces[i].file == it.st_ino)
             keep(file, held, pieces[i].at, pieces[i].size);
@@ -166,8 +194,27 @@ static void sync_names(const char *name) {
         closedir(all);
 }
 
+// Whether this process is the one that cuts the power. Two that come to that at once would each kill the other before
+// the one that keeps them, which would start both again while the power is on.
+static int is_first(void) {
+    char path[PATH_MAX];
+    snprintf(path, sizeof path, "%s/cut", disk);
+    int file = syscall(SYS_openat, AT_FDCWD, path, O_WRONLY | O_CREAT | O_EXCL | O_CLOEXEC, 0600);
+    if (file < 0 && errno != EEXIST)
+        fail("the power can't be cut");
+    syscall(SYS_close, file);
+    return file >= 0;
+}
+
 // Ends all processes of the edge as a power cut does. By chance some of what wasn't synced has come to the disk before.
 static void cut(void) {
+    if (is_alone)
+        syscall(SYS_kill, getpid(), SIGKILL);
+    if (!is_first()) {
+        say("late", "");
+        for (;;)
+            pause();
+    }
     for (int i = 0; has_chance && i < many; i++)
         if (rand_r(&chance) & 1) {
             int held = open_held(pieces[i].file), from = pieces[i].name;
@@ -206,10 +253,8 @@ static void wrote(int file, off_t at, off_t size) {
     struct stat it;
     if (size <= 0 || syscall(SYS_fstat, file, &it))
         return;
-    if (many == MOST_PIECES) {
-        say("overfull", "");
-        abort();
-    }
+    if (many == MOST_PIECES)
+        fail("there are too many pieces that aren't synced");
     pieces[many++] = (struct piece){it.st_ino, file, at, size};
 }
 
@@ -226,6 +271,7 @@ static void opened(int file, const char *path, int is_new) {
         return;
     snprintf(names[file], sizeof names[file], "%s", path[size] && path[size + 1] ? path + size + 1 : ".");
     is_folder[file] = S_ISDIR(it.st_mode);
+    set_ours(it.st_ino, is_new);
     if (is_new && !is_folder[file]) {
         char held[PATH_MAX];
         snprintf(held, sizeof held, "%s/held-%lu", disk, (unsigned long)it.st_ino);

@@ -49,6 +49,18 @@ class Power:
             return False
         if status != -signal.SIGKILL:
             raise Trouble(f"the edge ended with {status}: {edge.lines[-4:]}")
+        if faults := [it for it in edge.lines if it.startswith("power.c: ")]:
+            raise Trouble(f"the disk can't be played: {faults}")
+        self.lose()
+        return True
+
+    def cut(self, edge: Edge) -> None:
+        """Cuts the power at this moment."""
+        edge.kill()
+        self.lose()
+
+    def lose(self) -> None:
+        """Leaves only what the disk has, once all processes have ended."""
         with open(os.path.join(self.disk, "processes"), encoding="ascii") as file:
             processes = [int(line) for line in file]
         await_that("an end of all processes", lambda: not any(is_there(it) for it in processes))
@@ -58,4 +70,3 @@ class Power:
             if os.path.exists(self.names(folder)):
                 shutil.copytree(self.names(folder), os.path.join(self.folder, folder))
         shutil.rmtree(self.disk)
-        return True

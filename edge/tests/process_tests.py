@@ -2,14 +2,16 @@
 import fcntl
 import itertools
 import os
+import select
 import shutil
 import signal
+import socket
 import stat
 import time
 from collections.abc import Iterator
 
 import slices
-from edges import EVENTS, PATIENCE, Edge, Trouble, Venue, again, children_of, freeze, is_there, pair, path_of, settings_of, told
+from edges import EVENTS, PATIENCE, Edge, Trouble, Venue, again, children_of, freeze, is_there, pair, path_of, processes_below, settings_of, told
 from engines import Engine, at_rest, cancel, order, refused
 from gikvand.fix import value
 from gikvand.words import sure
@@ -324,6 +326,40 @@ def test_one_of_one_file() -> None:
     expect((bool(one.next_of("5")), edge.status(), edge.lines[-1]), (True, 0, "gikvand-edge: C2: stopped"))
 
 
+def test_told_to_systemd() -> None:
+    """Once all ports listen, and not before that, systemd is told so, once, at a path or at a name without one: by the process of one
+    member, and by who keeps several. Nothing that they start can tell it, and where nothing starts it isn't told."""
+    _, edge, port = pair(2)
+    edge.stop()
+    text = settings()
+    for words, place in itertools.product((("--all",), ("--member", "C1")), (os.path.abspath("systemd"), f"@gikvand-{os.getpid()}")):
+        with socket.socket(socket.AF_UNIX, socket.SOCK_DGRAM) as at:
+            at.bind(place.replace("@", "\0"))
+            at.settimeout(PATIENCE)
+            env = {**os.environ, "NOTIFY_SOCKET": place}
+            wrong = Edge(text.replace("Member=C1", "Member=C9"), words=words, env=env)
+            expect((wrong.status(), select.select([at], [], [], 0)[0]), (1, []))
+            edge = Edge(text, words=words, env=env)
+            expect(at.recv(100), b"READY=1")
+            for k in range(2 if words == ("--all",) else 1):
+                socket.create_connection(("127.0.0.1", port + k), PATIENCE).close()
+            edge.hears("C1: serves, behind report")
+            began = [name for pid, _ in processes_below(edge.process.pid) for name in started_with(pid)]
+            expect((bool(began), "NOTIFY_SOCKET" in began), (words == ("--all",), False))
+            edge.stop()
+            expect(select.select([at], [], [], 0)[0], [])
+        if place[0] == "/":
+            os.remove(place)
+    edge = Edge(text, env={**os.environ, "NOTIFY_SOCKET": os.path.abspath("systemd")}).ready(2)
+    expect([it for it in edge.lines if "systemd" in it], ["gikvand-edge: systemd isn't told that it listens: No such file or directory"])
+
+
+def started_with(pid: int) -> list[str]:
+    """The names of the environment by which a process was started."""
+    with open(f"/proc/{pid}/environ", encoding="utf-8") as file:
+        return [it.partition("=")[0] for it in file.read().split("\0")]
+
+
 BY_TURNS = """#!/bin/sh
 mkdir busy 2>/dev/null || touch together
 '{events}' "$@" >told.$$
@@ -472,6 +508,6 @@ def test_served_for_a_minute() -> None:
 
 TESTS = [test_killed_process, test_stuck_process, test_bounded_stop, test_crash_at_the_stop, test_stop_within_a_start,
          test_sessions_of_their_own, test_short_slices, test_killed_supervisor, test_damaged_member, test_full_folder,
-         test_private_files, test_older_layout, test_one_of_one_file, test_readings_by_turns, test_markets_by_turns, test_stuck_reading,
-         test_reading_that_stays, test_reading_that_fails]
+         test_private_files, test_older_layout, test_one_of_one_file, test_told_to_systemd, test_readings_by_turns, test_markets_by_turns,
+         test_stuck_reading, test_reading_that_stays, test_reading_that_fails]
 LONG_TESTS = [test_served_for_a_minute]

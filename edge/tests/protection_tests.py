@@ -1,12 +1,12 @@
 """What a member may do is bounded, and none holds up another: rates, sizes, orders, passwords, slow readers."""
 import contextlib
+import math
 import os
 import socket
 import subprocess
 import time
-import urllib.request
 
-from edges import HOST, PATIENCE, ROOT, Edge, Settings, Trouble, again, await_that, free_port, pair, session_files, told
+from edges import HOST, PATIENCE, ROOT, Edge, Settings, Trouble, again, await_that, free_port, page_at, pair, session_files, told
 from engines import Engine, at_once, at_rest, cancel, now, order, refused, replace
 from gikvand.fix import framed, value
 from gikvand.words import sure
@@ -210,8 +210,7 @@ def test_slow_reader() -> None:
 
 def figure(page: int, name: str, member: str = "C1") -> int:
     """A figure of a member, of its page."""
-    with urllib.request.urlopen(f"http://127.0.0.1:{page}/metrics", timeout=PATIENCE) as answer:
-        lines = answer.read().decode().splitlines()
+    lines = page_at(page, "metrics").splitlines()
     return int(next(line for line in lines if line.startswith(f'{name}{{member="{member}"}}')).split()[1])
 
 
@@ -257,12 +256,15 @@ def test_bound_behind_a_resend() -> None:
             data, one.out = framed(f"35=D|34={one.out}|{head}|{far}"), one.out + 1
             while data:  # The system may take a part of it, and the rest when the edge has read some.
                 data = data[sure(one.socket).send(data):]
-    count = 0
+    count, end = 0, math.inf
     while not any("it takes too few of its reports" in line for line in edge.lines):
         sold(other, count)
         count += 1
         if count % 20 == 0 and (unsent := figure(page, "gikvand_edge_unsent_bytes")) > 200000:
-            raise Trouble(f"{unsent} bytes wait for a member that takes nothing")
+            # Its process may be busy with what the member has sent, and comes to the reports behind that.
+            end = min(end, time.monotonic() + PATIENCE)
+            if time.monotonic() > end:
+                raise Trouble(f"{unsent} bytes wait for a member that takes nothing")
 
 
 def test_waits_for_room() -> None:
@@ -313,10 +315,7 @@ def test_status_page() -> None:
         one.send("D", order("a", 1, 1, "50"))
         one.report(_150="8")
     await_that("its client has taken all", lambda: not figure(page, "gikvand_edge_unsent_bytes"))
-    lines = []
-    for port in (page, page + 1):
-        with urllib.request.urlopen(f"http://127.0.0.1:{port}/", timeout=PATIENCE) as answer:
-            lines.append(answer.read().decode())
+    lines = [page_at(it) for it in (page, page + 1)]
     expect(lines[0].rpartition(" ")[0], "C1 (DESK-A): serves, logged on, 3 requests, 2 refused by the edge, 1 reports, "
                                         "the last 1, 1 open orders worth 50, 0 bytes not taken, numbers since")
     expect((lines[1][:27], lines[1].count("\n")), ("C2 (DESK-B): serves, away, ", 1))

@@ -8,12 +8,11 @@ import stat
 import subprocess
 import sys
 import time
-import urllib.request
 from collections.abc import Sequence
 
 from clocks import Clock
 from edges import DEFAULTS, DICTIONARY, EDGE, EVENTS, JOURNAL, PATIENCE, ROOT, SYMBOLS, Edge, Settings, Trouble, await_that, free_port
-from edges import in_folders, members_of, pair, settings_of, started, told
+from edges import in_folders, members_of, page_at, pair, settings_of, started, told
 from engines import Engine, at_rest, order
 from gikvand.programs import VENUED
 from gikvand.words import sure
@@ -61,8 +60,7 @@ def test_outside_hours() -> None:
     expect(market.lines("C1: serves"), [f"gikvand-edge: C1: serves, behind report 0, {OPENS}"])
 
     def shown() -> tuple[str, str]:
-        with urllib.request.urlopen(f"http://127.0.0.1:{page}/", timeout=10) as it:
-            return called("status C1")[1].strip(), it.read().decode().strip()
+        return called("status C1")[1].strip(), page_at(page).strip()
     for words in shown():
         expect(words.partition(", away, ")[0], f"C1 (DESK-A): serves, {OPENS}")
     expect(figure(page, "gikvand_edge_within_hours"), 0)
@@ -211,7 +209,7 @@ def test_user_of_a_service() -> None:
     with open(DICTIONARY, encoding="ascii") as file:
         written("etc/dictionary.xml", file.read())
     more = {"DataDictionary": "/etc/dictionary.xml", "VenueJournal": "/bin/true", "VenueEvents": "/bin/true", "Username": "desk",
-            "PasswordFile": secret}
+            "PasswordFile": secret, "AllowAnyone": "N"}
     for name in ("C1", "C2"):
         written(f"etc/gikvand-edge/{name}.cfg", service(int(name[1]), port, **more))
     os.symlink("gikvand-edge/C1.cfg", "etc/link.cfg")
@@ -313,7 +311,12 @@ def test_first_try() -> None:
                 expect(tried.poll(), None)
             expect(said[:2], [f"connect to 127.0.0.1:{port + at} as SenderCompID {name}, TargetCompID GIKVAND"
                               for at, name in enumerate(("DESK-A", "DESK-B"))])
-            client = said[-2].removeprefix("a first client: python3 ").split()
+            client = said[-5].removeprefix("a first client, which buys 1 ABC at 50 as DESK-A: python3 ").split()
+            expect([it.partition(",")[0] for it in said[-4:-2]],
+                   ["behind it an engine of your own is DESK-B", "the next edge/try begins with 1 as well: remove DESK-A.numbers then"])
+            words = said[-2].removeprefix("an operator's words: ")
+            asked = subprocess.run(["sh", "-c", words], capture_output=True, text=True, timeout=PATIENCE)
+            expect((asked.returncode, asked.stderr, asked.stdout.count(": serves, away, ")), (0, "", 2))
             ran = subprocess.run([sys.executable, os.path.join(ROOT, client[0]), *client[1:]], stdin=subprocess.DEVNULL,
                                  capture_output=True, text=True, timeout=PATIENCE)
             expect((ran.returncode, ran.stderr, "logged on" in ran.stdout), (0, "", True))  # It may be gone before the venue answers.

@@ -41,7 +41,7 @@ WRONG: dict[str, dict[str | None, str]] = {
     "ValidateLengthAndChecksum": {"N": "has to be Y"},
     "ValidateFieldsHaveValues": {"N": "has to be Y"},
     "SyncNames": {"Y": "is always so", "N": "is always so"},
-    "CANCELONDISCONECT": {"Y": "is no setting"},
+    "CancelOnDisconect": {"Y": "is no setting"},
 }
 WRONG_OF_ONE: dict[str, dict[str | None, str]] = {
     "Member": {None: "is missing", "C9": "isn't C1 to C8"},
@@ -131,9 +131,9 @@ def test_more_settings() -> None:
     port = free_port(2)
     two = members_of(2, port)
     two[1]["Member"] = "C1"
-    os.umask(0o077)
     with open(SECRETS, "w", encoding="ascii") as file:
         file.write("desk:secret\n")
+    os.chmod(SECRETS, 0o600)
     with open("venue.journal.symbols", "w", encoding="ascii") as file:
         file.write("ABC\n")
     for text, words, wanted in (
@@ -215,6 +215,15 @@ def test_second_edge() -> None:
         last = Edge(settings)
         time.sleep(0.4)
     last.ready()
+
+
+def test_help() -> None:
+    """It tells the forms of its words on standard output, as it does on standard error for wrong ones, and where to read on."""
+    right, wrong = (subprocess.run([EDGE, it], capture_output=True, text=True, timeout=PATIENCE) for it in ("--help", "--halp"))
+    expect((right.returncode, right.stderr, wrong.returncode, wrong.stdout), (0, "", 1, ""))
+    expect((right.stdout.startswith(f"{wrong.stderr}\n"), "gikvand-edge(8)" in right.stdout), (True, True))
+    with open("/dev/full", "w", encoding="ascii") as full:
+        expect(subprocess.run([EDGE, "--help"], stdout=full, timeout=PATIENCE).returncode, 1)
 
 
 def test_version() -> None:
@@ -319,5 +328,36 @@ def test_what_is_not_there() -> None:
     expect(looked(Username="desk", PasswordFile="loop"), (1, ["gikvand-edge: PasswordFile: can't be read: loop"]))
 
 
-TESTS = [test_wrong_settings, test_more_settings, test_firms, test_version, test_dictionary_of_the_package, test_second_edge,
-         test_other_steps, test_what_is_not_there]
+def checked(text: str, passwords: str) -> subprocess.CompletedProcess[str]:
+    """What `--check` says to these settings, and to this file of passwords."""
+    for name, written in (("passwords", passwords), ("edge.cfg", text)):
+        with open(name, "w", encoding="ascii", newline="") as file:
+            file.write(written)
+        os.chmod(name, 0o600)
+    return subprocess.run([EDGE, "--check", "edge.cfg"], capture_output=True, text=True, timeout=PATIENCE)
+
+
+def test_lines_of_passwords() -> None:
+    """A user has one line with a password, and no blank stands on either side of that: else another one counts than the one that was
+    written last."""
+    twice, empty = (f"PasswordFile: has {it} of desk: passwords" for it in ("two lines", "an empty password"))
+    front, behind = (f"PasswordFile: has a blank {it} the password of desk: passwords" for it in ("in front of", "behind"))
+    text = settings_of({"VenuePort": 9001}, members_of(1, 9801, Username="desk", PasswordFile="passwords"))
+    for lines, fault in (("desk:A b\nother:A\nother:B \ndesks:\n", None), ("desk:A\nother:B\ndesk:C\n", twice),
+                         ("desk:A\ndesk:A\n", twice), ("desk:A\ndesk:\n", twice), ("desk:\n", empty), ("desk: A\n", front),
+                         ("desk:\tA\n", front), ("desk:A \n", behind), ("desk:A\t", behind), ("desk:A\r\n", behind),
+                         ("desks:A\n", "Username: has no line in passwords: desk")):
+        ran = checked(text, lines)
+        expect((lines, ran.returncode, ran.stderr), (lines, int(bool(fault)), f"gikvand-edge: {fault}\n" if fault else ran.stderr))
+
+
+def test_anyone_with_a_password() -> None:
+    """`--check` tells of a session that asks for a password though anyone may come in, and of no other one."""
+    for anyone, user, told in (("Y", "desk", ["C1: Username asks for a password, in spite of AllowAnyone=Y"]), (None, "desk", []), ("Y", None, [])):
+        common = {"VenuePort": 9001, "VenueJournal": "passwords", "AllowAnyone": anyone}
+        ran = checked(settings_of(common, members_of(1, 9801, Username=user, PasswordFile=user and "passwords")), "desk:A\n")
+        expect((anyone, ran.returncode, ran.stderr, ran.stdout.splitlines()[1:]), (anyone, 0, "", told))
+
+
+TESTS = [test_wrong_settings, test_more_settings, test_firms, test_help, test_version, test_dictionary_of_the_package, test_second_edge,
+         test_other_steps, test_what_is_not_there, test_lines_of_passwords, test_anyone_with_a_password]

@@ -4,6 +4,7 @@ import contextlib
 import os
 import pwd
 import re
+import shutil
 import signal
 import socket
 import stat
@@ -11,10 +12,10 @@ import statistics
 import subprocess
 import threading
 import time
-import urllib.request
 
 from differential import BY_OPERATOR
-from edges import EDGE, PATIENCE, Edge, Trouble, Venue, again, await_that, changed, free_port, freeze, is_there, pair, rows, stored, told
+from edges import EDGE, PATIENCE, Edge, Trouble, Venue, again, await_that, changed, free_port, freeze, is_there, page_at, pair, rows
+from edges import stored, told
 from engines import Engine, at_rest, cancel, now, order, replace
 from gikvand.fix import fields_of, value
 from gikvand.words import sure
@@ -182,14 +183,12 @@ def test_status() -> None:
         raise Trouble(f"status: {status} {out} {err}")
     done("stop C1", "C1: stopped, and the venue has answered the cancel of 1 order")
     cancelled(one, "a")
-    with urllib.request.urlopen(f"http://127.0.0.1:{page}/", timeout=PATIENCE) as answer:
-        words = answer.read().decode()
+    words = page_at(page)
     if not re.fullmatch(f"C1 {line.format('A', 'logged on', f'stopped {who}, XYZ halted {who}')}\n", words):
         raise Trouble(f"the page: {words}")
     expect(called("status C1"), (0, words, ""))
     expect(figure(page, "gikvand_edge_stopped"), 1)
-    with urllib.request.urlopen(f"http://127.0.0.1:{page}/metrics", timeout=PATIENCE) as answer:
-        figures = answer.read().decode().splitlines()
+    figures = page_at(page, "metrics").splitlines()
     expect([it for it in figures if "halted" in it], ['gikvand_edge_halted{member="C1",symbol="ABC"} 0',
                                                       'gikvand_edge_halted{member="C1",symbol="XYZ"} 1'])
     done("resume C1", "C1: trades again")
@@ -237,6 +236,26 @@ def test_not_carried_out() -> None:
     edge.stop()
     expect(os.path.exists(CONTROL), False)
     failed("resume C1", "C1: its process doesn't run: edge/C1/C1.control: No such file or directory")
+
+
+def test_folder_of_settings() -> None:
+    """A folder stands for each NAME.cfg in it, so that no member is forgotten; one without such a file is refused."""
+    venue, edge, port = pair(2)
+    one = at_rest(port, "a")
+    text = settings()
+    os.mkdir("members")
+    for name, gone in (("C1", "2"), ("C2", "1")):
+        with open(f"members/{name}.cfg", "w", encoding="ascii") as file:
+            file.write("".join(f"[{it}" for it in text.split("[")[1:] if f"Member=C{gone}" not in it))
+    with open("members/notes.txt", "w", encoding="ascii") as file:
+        file.write("no settings")
+    for path in ("members", "members/"):
+        expect(called("halt ABC", path), (0, "C1: ABC is halted\nC2: ABC is halted\n", ""))
+    expect(called("cancel C1", "members"), (0, "C1: the venue has answered the cancel of 1 order\n", ""))
+    cancelled(one, "a")
+    expect(called("resume ABC", "members/C2.cfg"), (0, "C2: ABC trades again\n", ""))
+    os.mkdir("empty")
+    expect(called("halt ABC", "empty"), (1, "", "gikvand-edge: empty: has no NAME.cfg: are these the settings of gikvand-edge?\n"))
 
 
 def test_kept() -> None:
@@ -508,6 +527,11 @@ def test_callers() -> None:
         for folder in (".", "edge", "edge/C1"):
             os.chmod(folder, 0o755)
         expect(can_call_as(65534), False)
+        program = os.path.abspath(shutil.copy(EDGE, "gikvand-edge-of-all"))
+        ran = subprocess.run([program, "status", "C1", "edge.cfg"], user=65534, group=65534, extra_groups=[], capture_output=True, text=True,
+                             timeout=PATIENCE)
+        refused = f"gikvand-edge: C1: this user may not ask its process: {CONTROL}: Permission denied\n"
+        expect((ran.returncode, ran.stdout, ran.stderr), (1, "", refused))
     process = edge.process_of(1)
     before = len(os.listdir(f"/proc/{process}/fd"))
     begin = time.monotonic()
@@ -524,6 +548,29 @@ def test_callers() -> None:
     expect(answered(*(bytes([byte]) for byte in b"C1 halt XYZ\n")), b"done: XYZ is halted\n")
     await_that("an end of all", lambda: len(os.listdir(f"/proc/{process}/fd")) <= before)
     at_rest(port, "a")
+
+
+def test_late_words() -> None:
+    """A process that stood still since a caller came reads first what that has said meanwhile: it lets nobody go for its own silence."""
+    venue, edge, port = pair()
+    process = edge.process_of(1)
+
+    def run(number: int) -> bytes:
+        before, begin = len(os.listdir(f"/proc/{process}/fd")), time.monotonic()
+        with caller() as it:
+            await_that("a caller who is taken in, as far as that can be seen",
+                       lambda: len(os.listdir(f"/proc/{process}/fd")) > before or time.monotonic() - begin > SILENCE / 2)
+            freeze(process)
+            took = time.monotonic() - begin
+            with contextlib.suppress(BrokenPipeError):
+                it.sendall(b"C1 resume ABC\n")
+            time.sleep(1.5 * SILENCE)
+            os.kill(process, signal.SIGCONT)
+            if took >= SILENCE:
+                raise Late(f"the words came behind {took:.1f} s")
+            return it.recv(4096)
+
+    expect(in_some_try(run, "late_words"), b"done: ABC wasn't halted\n")
 
 
 def test_false_process() -> None:
@@ -889,8 +936,8 @@ def test_thousand_cancels() -> None:
               flush=True)
 
 
-TESTS = [test_stop_and_resume, test_halt, test_status, test_not_carried_out, test_kept, test_killed_before_the_answers,
+TESTS = [test_stop_and_resume, test_halt, test_status, test_not_carried_out, test_folder_of_settings, test_kept, test_killed_before_the_answers,
          test_killed_with_the_venue, test_killed_again, test_venue_comes_back, test_no_answer, test_edge_stops, test_not_kept,
-         test_callers, test_false_process, test_operator_gone, test_stopped_while_it_sends, test_mass_cancel, test_mass_cancel_refused,
+         test_callers, test_late_words, test_false_process, test_operator_gone, test_stopped_while_it_sends, test_mass_cancel, test_mass_cancel_refused,
          test_mass_cancel_while_stopped, test_mass_cancel_of_what_is_under_way, test_mass_cancel_sent_again,
          test_mass_cancel_killed, test_ordered_behind, test_mass_cancel_of_the_day_before, test_thousand_cancels]

@@ -15,24 +15,8 @@ T = TypeVar("T")
 
 CLIENT = os.path.join(ROOT, "edge/out/tradeclient")
 STOCK = os.path.join(ROOT, "edge/out/FIX44.xml")
-SETTINGS = """[DEFAULT]
-ConnectionType=initiator
-ReconnectInterval=1
-HeartBtInt=30
-StartTime={start}
-EndTime={end}
-FileStorePath=client-{name}
-UseDataDictionary=Y
-DataDictionary={dictionary}
-SocketConnectHost=127.0.0.1
-SocketConnectPort={port}
-ValidateUserDefinedFields=Y
-
-[SESSION]
-BeginString=FIX.4.4
-SenderCompID={name}
-TargetCompID=GIKVAND
-"""
+EXAMPLE = os.path.join(ROOT, "examples/quickfix.cfg")  # Its settings, but for places, names, hours, and how soon it comes back.
+ALSO = "ValidateUserDefinedFields=Y\n\n[SESSION]\n"
 # The questions that it asks, and which of its choices is meant.
 QUESTIONS = re.compile(rb"(Action|BeginString|ClOrdID|OrigClOrdID|Side|OrdType|Symbol|OrderQty|TimeInForce|Price|"
                        rb"SenderCompID|TargetCompID|Use a TargetSubID\?|Send order\?|Send cancel\?|Send replace\?|"
@@ -41,16 +25,28 @@ DAY, GTC = 1, 4  # Of its choices for TimeInForce.
 IN = re.compile(rb"\nIN: (8=FIX[^\n]*)\n")
 
 
+def settings(**values: str | int) -> str:
+    """The example's settings with other values of these names."""
+    with open(EXAMPLE, encoding="ascii") as file:
+        text = file.read().replace("[SESSION]\n", ALSO)
+    for name, other in values.items():
+        text, count = re.subn(rf"(?m)^{name}=.*$", f"{name}={other}", text)
+        if count != 1:
+            raise Trouble(f"{name} stands {count} times in {EXAMPLE}")
+    return text
+
+
 class TradeClient:
     """One that runs, as a member of the edge."""
 
     def __init__(self, port: int, member: int = 1, hours: Sequence[str] = ("00:00:00", "00:00:00"),
-                 env: dict[str, str] | None = None) -> None:
+                 env: dict[str, str] | None = None, dictionary: str = STOCK) -> None:
         self.name = NAMES[member]
         config = f"client-{self.name}.cfg"
         with open(config, "w", encoding="ascii") as file:
-            file.write(SETTINGS.format(name=self.name, port=port + member - 1, dictionary=STOCK, start=hours[0],
-                                       end=hours[1]))
+            file.write(settings(ReconnectInterval=1, StartTime=hours[0], EndTime=hours[1], FileStorePath=f"client-{self.name}",
+                                FileLogPath=f"client-{self.name}", DataDictionary=dictionary, SenderCompID=self.name,
+                                SocketConnectPort=port + member - 1))
         pipe = subprocess.PIPE
         self.process = subprocess.Popen([CLIENT, config], stdin=pipe, stdout=pipe, stderr=subprocess.STDOUT,
                                         env=env)

@@ -27,7 +27,7 @@ def test_unit() -> None:
     kept = venues[venues.index("NoNewPrivileges=yes"):venues.index("[Install]")]
     expect([FAMILIES if it == OPERATORS else it for it in own[own.index("NoNewPrivileges=yes"):own.index("[Install]")]
             if it != SLICES], kept)
-    for name in (SLICES, OPERATORS, "User=gikvand-edge-%i", "StateDirectory=gikvand-edge/%i", "StateDirectoryMode=0700", "UMask=0077",
+    for name in (SLICES, OPERATORS, "Type=notify", "User=gikvand-edge-%i", "StateDirectory=gikvand-edge/%i", "StateDirectoryMode=0700", "UMask=0077",
                  "CPUWeight=1000", "MemoryMax=", "TasksMax=", "LimitNOFILE=", "StartLimitIntervalSec=0",
                  "ExecStart=/usr/bin/gikvand-edge /etc/gikvand-edge/%i.cfg"):
         expect((name, sum(line.startswith(name) for line in own)), (name, 1))

@@ -38,7 +38,7 @@ def build(wrong: Wrong, place: str) -> str:
     sources, program = os.path.join(place, "src"), os.path.join(place, "wrong-edge")
     shutil.rmtree(sources, ignore_errors=True)
     shutil.copytree(os.path.join(EDGE, "src"), sources)
-    name, compiled = wrong.source + (".h" if wrong.by else ".cpp"), wrong.by or wrong.source
+    name, compiled = wrong.file(), wrong.by or wrong.source
     with open(os.path.join(sources, name), "r+", encoding="utf-8") as file:
         text = file.read()
         if text.count(wrong.old) != 1:

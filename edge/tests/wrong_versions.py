@@ -12,18 +12,36 @@ class Wrong(NamedTuple):
     test: str
     by: str = ""
 
+    def file(self) -> str:
+        """The name of the source, or of the header."""
+        return f"{self.source}.h" if self.by else f"{self.source}.cpp"
+
 
 WRONG = {
+    "a version with its folder": Wrong("main", "<< GIKVAND_VERSION <<", "<< GIKVAND_VERSION << __FILE__ <<", "test_traces"),
+    "a version with its day": Wrong("main", "<< GIKVAND_VERSION <<", "<< GIKVAND_VERSION << __DATE__ <<", "test_traces"),
     "slices as all others have them": Wrong("process", "    shortenSlices();\n", "", "short_slices"),
     "one session for all members": Wrong("supervisor", "    ::setsid();\n", "", "sessions_of_their_own"),
-    "a request whose name isn't kept": Wrong("names", "    record_.add({state.last + 1, ",
-                                             "    if (false) record_.add({state.last + 1, ", "each_report"),
+    "a request whose name isn't kept": Wrong(
+        "names", "    record_.add({own_.place(state.last + 1), ",
+        "    if (false) record_.add({own_.place(state.last + 1), ", "each_report"),
     "numbers that don't rise": Wrong("names", "recentOf(++state.last);", "recentOf(state.last);", "each_report"),
     "names of a turn that was lost": Wrong("names", "    if (recentClosing_ != record_.closings())\n", "    if (false)\n",
                                            "name_of_a_lost_turn"),
     "names by their places alone": Wrong("names", "    if (number && recent.number == number) return",
                                          "    if (number && recent.number) return", "many_names"),
     "a second that stays": Wrong("seconds", "text = timeOf(last = second);", "last = second;", "log_times"),
+    "a folder of which one file counts": Wrong("surroundings", "    const std::vector<std::string> paths = filesIn(path, SETTINGS);\n    if (paths.empty()) throw",
+                                               "    std::vector<std::string> paths = filesIn(path, SETTINGS);\n    if (!paths.empty()) paths.resize(1);\n"
+                                               "    else throw", "folder_of_settings"),
+    "a folder whose files are all settings": Wrong("surroundings", "        if (endsWith(it->d_name, end)) paths.push_back",
+                                                   "        if (it->d_name[0] != '.') paths.push_back", "folder_of_settings"),
+    "a folder without settings": Wrong("surroundings", '    if (paths.empty()) throw BadSetting(path, "has no NAME.cfg', '    if (false) throw BadSetting(path, "has no NAME.cfg',
+                                       "folder_of_settings"),
+    "a setting told in capitals": Wrong("settings", "            throw BadSetting(name, \"is no setting\");", "            throw BadSetting(FIX::string_toUpper(name), \"is no setting\");",
+                                        "wrong_settings"),
+    "settings of any name": Wrong("settings", "!isSettingName(FIX::string_toUpper(name)))", "false)", "wrong_settings"),
+    "settings that are read from their end": Wrong("settings", "        file.seekg(0);\n", "", "wrong_settings"),
     "nothing committed": Wrong("record", "    commit_.run();\n    areTablesChanging_ = false;\n", "", "test_sent_again"),
     "turns that aren't kept": Wrong("record", "        keepTurn_.run(", "        if (false) keepTurn_.run(",
                                     "test_sent_again"),
@@ -42,7 +60,17 @@ WRONG = {
     "records of before that aren't read": Wrong("record", "found != VERSION && found != WITHOUT_TURNS", "found != VERSION",
                                                 "record_of_before"),
     "refusals of turns that are taken for requests": Wrong(
-        "names", "        it.wasRefused = found->kind == static_cast<char>(Kind::Refused);\n", "", "kept_by_turns"),
+        "names", "    it.wasRefused = kind == static_cast<char>(Kind::Refused);\n", "", "kept_by_turns"),
+    "starts that read page by page": Wrong("database", "SQLITE_OPEN_NOMUTEX, readAhead());", "SQLITE_OPEN_NOMUTEX, nullptr);",
+                                           "start_in_pieces"),
+    "pages that are read forwards alone": Wrong("read_ahead", "(goesOn || goesBack)", "goesOn", "test_pieces"),
+    "pieces for who reads anywhere": Wrong("read_ahead", "(goesOn || goesBack)", "true", "test_pieces"),
+    "pieces of before a write": Wrong("read_ahead", "sqlite3_int64 at) {\n    of(file).end();\n", "sqlite3_int64 at) {\n", "pieces_by_chance"),
+    "pieces of before a cut": Wrong("read_ahead", "sqlite3_int64 size) {\n    of(file).end();\n", "sqlite3_int64 size) {\n",
+                                    "pieces_by_chance"),
+    "pieces of before a lock": Wrong("read_ahead", "    of(file).forget();\n    return", "    return", "pieces_by_chance"),
+    "pieces of what is written to": Wrong("read_ahead", "    isAhead_ = false;\n    forget();\n", "    forget();\n", "test_pieces"),
+    "pieces that end behind their file": Wrong("read_ahead", "    count_ = count;\n", "    count_ = PIECE;\n", "pieces_by_chance"),
     "commits that nobody waits for": Wrong("database", "PRAGMA synchronous = FULL", "PRAGMA synchronous = OFF",
                                            "order_of_calls"),
     "commits that the disk may forget": Wrong("database", "PRAGMA synchronous = FULL", "PRAGMA synchronous = NORMAL",
@@ -57,14 +85,15 @@ WRONG = {
                                             "    out_ += message;\n    released_ = out_.size();\n    flush();\n",
                                             "order_of_calls"),
     "a turn that is kept behind its bytes": Wrong(
-        "member", "    keep();\n    flush();\n", "    link_.release();\n    for (MemberSession &it : sessions_) it.release();\n"
+        "member", "    keep();\n    flush();\n", "    for (Venue &it : venues_) it.release();\n    for (MemberSession &it : sessions_) it.release();\n"
         "    flush();\n    keep();\n", "order_of_calls"),
     "what a turn that failed has sent": Wrong(
         "member_session", "    conversation_.drop();\n", "    conversation_.release();\n", "full_store"),
     "refusals on a full disk told and not kept": Wrong(
         "member_session", "    conversation_.drop();\n", "    conversation_.release();\n", "full_of_refusals"),
     "a part of a turn that is kept": Wrong(
-        "member", "    if (!trader_.fault().empty()) throw std::runtime_error(trader_.fault());\n    if (isStoreRead_ && ",
+        "member",
+        "    if (!traders_.fault().empty()) throw std::runtime_error(traders_.fault());\n    if (isStoreRead_ && ",
         "    if (isStoreRead_ && ", "name_not_taken"),
     "a turn that can't be kept and is told": Wrong(
         "member", "    record_.commit();\n", "    try { record_.commit(); } catch (const std::exception &) {}\n",
@@ -80,7 +109,7 @@ WRONG = {
     "no gap behind what the journal shows": Wrong(
         "record", "    const bool steps = !haveAllStepped() && !areAllDoubtful();\n", "    const bool steps = false;\n",
         "older_record"),
-    "nothing told again behind what the journal shows": Wrong("record", "    state.told = toldBefore_;\n", "",
+    "nothing told again behind what the journal shows": Wrong("record", "    state_.told = opened_.told;\n", "",
                                                               "older_record"),
     "what is sent again taken, though names are lost": Wrong(
         "trader", "    if (seat.record.state().isDoubtful || time < doubtedAt + MOST_APART)\n", "    if (false)\n",
@@ -94,24 +123,25 @@ WRONG = {
     "a gap that is filled from the beginning": Wrong("store", "        if (last && last < to && ", "        if (false && ",
                                                      "another_run"),
     "refused names forgotten": Wrong(
-        "trader", "    if (Orders::isName(it.name) && !names_.isKnown(it.name, it.desk))\n", "    if (false)\n", "refused_name"),
+        "trader", "    if (Orders::isName(it.name) && !isKnown(it.name, it.desk))\n", "    if (false)\n", "refused_name"),
     "refused names taken for those of orders": Wrong(
         "names", "return found.wasRefused ? 0 : found.number;\n", "return found.number;\n", "refusal_sent_again"),
     "foreign numbers that settle all before": Wrong("trader", "    if (isNamed) names_.answered(number);",
                                                     "    names_.answered(number);", "far_number"),
-    "foreign numbers that are used again": Wrong("names", "    if (number > last()) record_.change().last = number;\n", "",
-                                                 "far_number"),
+    "foreign numbers that are used again": Wrong(
+        "names", "    if (number > last()) own_.change().last = number;\n", "", "far_number"),
     "foreign numbers by any text": Wrong("names", "    if (nameOf(number) == name) it.number = number;\n",
                                          "    it.number = number;\n", "far_number"),
     "a gap in the names number by number": Wrong(
-        "names", "    if (number > last()) record_.change().last = number;\n",
-        "    for (int some = 0; number > last() && some < 1000000; some++)\n"
-        "        add(NAMELESS + std::to_string(last() + 1), Kind::Cancel);\n", "far_number"),
+        "names", "    if (number > last()) own_.change().last = number;\n",
+        "    for (int some = 0; number > last() && some < 1000000; some++)\n        add(NAMELESS + "
+        "std::to_string(last() + 1), Kind::Cancel);\n", "far_number"),
     "numbers above the greatest": Wrong("cancels", "        if (names_.last() >= Names::GREATEST) break;\n", "", "greatest_number"),
     "messages up to a byte 0": Wrong("store", "messages.push_back(rows.bytes(1));",
                                      "messages.push_back(rows.bytes(1).c_str());", "any_bytes"),
-    "names kept for ever": Wrong("names", "        if (!rests(number)) drop_.run(number);\n", "        (void)number;\n",
-                                 "test_names_dropped"),
+    "names kept for ever": Wrong(
+        "names", "        if (!rests(number)) drop_.run(own_.place(number));\n", "        (void)number;\n",
+        "test_names_dropped"),
     "names of orders that rest dropped": Wrong("names", "        if (!rests(number)) drop_", "        drop_",
                                                "test_names_dropped"),
     "names of refusals kept for ever": Wrong("names", " OR kind IN ('x', 's'))", ")", "refused_names_dropped"),
@@ -144,8 +174,8 @@ WRONG = {
     "what comes behind the venue's Logon told at once": Wrong(
         "trader", "    if (!isReady_ || !held_.empty() || ", "    if (isRecovering_ || !held_.empty() || ", "behind_logon"),
     "what came meanwhile is lost": Wrong("trader", "        held_.push_back(message.bytes());\n", "", "test_meanwhile"),
-    "members before the journal is read": Wrong("logons", "    return trader_.isReady() ? ", "    return true ? ",
-                                                "edge_first"),
+    "members before the journal is read": Wrong(
+        "logons", "    return traders_.letsOn() ? ", "    return true ? ", "edge_first"),
     "lost requests without a word": Wrong("trader", "    if (!names_.unanswered(names_.last()).empty()) probe();\n    else if (",
                                           "    if (", "lost_request"),
     "lost requests told twice": Wrong("trader", "    if (isNamed) names_", "    if (isNamed && type == '8') names_",
@@ -265,11 +295,12 @@ WRONG = {
                                       "    if (isLogon && !session_->isLoggedOn() && isRefused(", "no_reset"),
     "a stranger in the member's place": Wrong(
         "conversation", "            if (!session_->isLoggedOn()) client_->disconnect();\n", "", "wrong_logons"),
-    "answers without a bound": Wrong("conversation", "return client_->takesMore() && link_.unsent()", "return link_.unsent()",
-                                     "many_resends"),
+    "answers without a bound": Wrong(
+        "conversation", "return client_->takesMore() && traders_.takesMore()", "return traders_.takesMore()",
+        "many_resends"),
     "orders that stay behind": Wrong("trader", "    if (isReady_) cancelAll(seat);\n", "", "cancel_on_disconnect"),
     "cancels that are sent once": Wrong(
-        "trader", "        if (!hasClient(it.first) && ", "        if (false && ", "lost_cancels"),
+        "trader", "        if (it.second->isCancelDue || settled < it.second->cancelledTo) cancelAll(*it.second);\n", "        (void)it;\n", "lost_cancels"),
     "a write that fails without a word": Wrong(
         "member", "    if (isStoreRead_ && !storeFault().empty()) ", "    if (false) ", "refused_write"),
     "any exception out of a store": Wrong("store", "        throw FIX::IOException(fault_);\n    }\n}",
@@ -326,14 +357,14 @@ WRONG = {
         "settings", '    if (!it.has("DataDictionary")) it.setString("DataDictionary", DICTIONARY);\n', "",
         "dictionary_of_the_package"),
     "folders without a bound": Wrong("quota", "    isKept_ = bytes <= most_;\n", "", "full_folder"),
-    "a bound without the log": Wrong("trader", "settings.folder, settings.logFolder}", "settings.folder}",
-                                     "full_folder"),
+    "a bound without the log": Wrong(
+        "shared", "settings.folder, settings.logFolder}", "settings.folder}", "full_folder"),
     "one port for two": Wrong("identity", '    needOwn(sessions, "SocketAcceptPort", isOneDoor);\n', "", "own_places"),
     "one port at all addresses": Wrong("identity", " || one.host == everywhere || other.host == everywhere", "",
                                        "own_places"),
-    "anyone without a word": Wrong("settings", 'if (flagOr(from, "AllowAnyone", false) || ', "if (true || ",
+    "anyone without a word": Wrong("settings", 'if (member.takesAnyone || ', "if (true || ",
                                    "known_members"),
-    "nobody in spite of AllowAnyone": Wrong("settings", 'if (flagOr(from, "AllowAnyone", false) || ', "if (",
+    "nobody in spite of AllowAnyone": Wrong("settings", 'if (member.takesAnyone || ', "if (",
                                             "known_members"),
     "clients beside the stunnel": Wrong("settings", '        if (into.host.compare(0, 4, "127."))\n',
                                         "        if (false)\n", "known_members"),
@@ -369,17 +400,19 @@ WRONG = {
     "a day that is begun again and again": Wrong(
         "member", "    if (rests()) return;\n", "    if (!isStoreRead_) return;\n", "no_room_for_a_day"),
     "a day told that is lost": Wrong("member_session", "    day_.drop();\n", "", "no_room_for_a_day"),
-    "faults and the venue in one line": Wrong("member", "    saidOfFault_ = why;\n", "    saidOfVenue_ = saidOfFault_ = why;\n",
-                                              "full_and_untidy"),
+    "faults and the venue in one line": Wrong("venue", "    drop(REST);\n", "    saidOfVenue_.clear();\n    drop(REST);\n", "full_and_untidy"),
     "a full disk that is tidied at each turn": Wrong(
         "member", "    return !isStoreRead_ || Clock::now() < restsUntil_;\n", "    return !isStoreRead_;\n",
         "full_and_untidy"),
-    "a record that is tidied in front of answers": Wrong("member", " && !trader_.isWaiting();", ";", "untidy_meanwhile"),
+    "a record that is tidied in front of answers": Wrong(
+        "member", " && !traders_.isWaiting();", ";", "untidy_meanwhile"),
     "days that end at each look": Wrong("day", "    began_ = record_.state().created.getTimeT();\n", "    began_ = 0;\n",
                                         "test_once"),
     "days that end behind what a turn tells": Wrong(
-        "member", "    lookAtDay();\n    takeCommands();  // Behind the end of a day, and in front of what the client sends.\n"
-        "    if (hasLink_) readLink();\n", "    takeCommands();\n    if (hasLink_) readLink();\n    lookAtDay();\n", "test_at_the_end"),
+        "member",
+        "    lookAtDay();\n    takeCommands();  // Behind the end of a day, and in front of what the client sends.\n  "
+        "  each(venues_, [](Venue &it) { it.read(); });\n",
+        "    takeCommands();\n    each(venues_, [](Venue &it) { it.read(); });\n    lookAtDay();\n", "test_at_the_end"),
     "days that end at their start": Wrong("hours", "return Schedule::daily(start, end);",
                                           "return Schedule::daily(end, start);", "test_once"),
     "weeks that end at their start": Wrong(
@@ -393,7 +426,7 @@ WRONG = {
         "trader", "    if (!seat.settings.limits.cancelOnDisconnect || seat.record.state().isSpared) return;\n",
         "    if (!seat.settings.limits.cancelOnDisconnect) return;\n", "orders_stay"),
     "orders that are cancelled at a start in the next day": Wrong(
-        "trader", " && !seat.record.state().isSpared)\n", ")\n", "orders_stay"),
+        "trader", "        if (isAway && !seat.record.state().isSpared) ", "        if (isAway) ", "orders_stay"),
     "orders that stay for ever": Wrong(
         "trader", "    if (record.state().isSpared) record.change().isSpared = false;\n", "", "orders_stay"),
     "Logons outside the hours": Wrong("conversation", "day_.isOpen() ? logons_", "true ? logons_", "test_week"),
@@ -505,21 +538,24 @@ WRONG = {
     "prices that can't be": Wrong(
         "ticks", '    if (steps < 0 || steps > MOST) throw std::invalid_argument("no price of the venue: " + '
         "std::to_string(steps));\n", "", "prices_out_of"),
-    "a link that is read whatever waits": Wrong("member", "trader_.holdsTooMuch() ? 0 : POLLIN", "POLLIN",
-                                                "flood_meanwhile"),
+    "a link that is read whatever waits": Wrong(
+        "venue", "trader_.holdsTooMuch() ? 0 : POLLIN", "POLLIN", "flood_meanwhile"),
     "garbled again without an end": Wrong("garbled", "    return again_ >= MOST_AGAIN ? Act::End : Act::AskAgain;",
                                           "    return Act::PassOver;", "garbled_again"),
     "numbers of any length": Wrong("conversation", "std::min(expected + MOST_STEP, MOST_NUMBER)", "expected + MOST_STEP",
                                    "far_numbers"),
-    "any step of prices": Wrong("steps", "    if (kept != lineOf(settings))\n", "    if (false)\n", "other_steps"),
-    "steps that aren't kept": Wrong("steps", "    if (!areKept(settings)) writeWhole(pathOf(settings), lineOf(settings) + \"\\n\");\n",
-                                    "    needSameSteps(settings);\n", "other_steps"),
+    "any step of prices": Wrong(
+        "steps", "    if (kept != lineOf(settings, venue))\n", "    if (false)\n", "other_steps"),
+    "steps that aren't kept": Wrong(
+        "steps", "        if (!areKept(settings, it)) writeWhole(pathOf(settings, it.letter), lineOf(settings, it) + \"\\n\");\n",
+        "        areKept(settings, it);\n", "other_steps"),
     "steps that a power cut leaves empty": Wrong("files", "    if (::fsync(file.get())) throw", "    if (false) throw",
                                                  "power_cuts"),
     "hours that nobody is told of": Wrong("hours", '    return hours.isOpen(now) ? "" : ', '    return true ? "" : ', "outside_hours"),
     "hours that begin with their last start": Wrong("schedule", "now - since(start_, now) + period_", "now - since(start_, now)",
                                                     "outside_hours", "hours"),
-    "a line that says serves alone": Wrong("member", '(outside.empty() ? "" : ", " + outside));', '"");', "outside_hours"),
+    "a line that says serves alone": Wrong(
+        "venue", '(outside.empty() ? "" : ", " + outside)));', '""));', "outside_hours"),
     "a page without hours": Wrong("status", '(outside.empty() ? "" : ", ") << outside << ', '"" << ', "outside_hours"),
     "a figure without hours": Wrong("status", "member_.hours().isOpen(std::time(nullptr))", "true", "outside_hours"),
     "a look without hours": Wrong("main", "        if (!outside.empty()) std::cout", "        if (false) std::cout", "outside_hours"),
@@ -537,8 +573,10 @@ WRONG = {
                                         "|| other.host == everywhere);", "    return one.port == other.port;", "files_beside"),
     "folders of services as one folder": Wrong("surroundings", ' && own.getString(name).compare(0, 1, "/") == 0)', ")", "files_beside"),
     "one folder for two files": Wrong("surroundings", "        if (isShared(own, other, name) && ", "        if (false && ", "files_beside"),
-    "one member for two files": Wrong("surroundings", '    if (isShared(own, other, "Member") && ', "    if (false && ", "files_beside"),
-    "members of two venues as one": Wrong("surroundings", ' && isShared(own, other, "VenuePort"))', ")", "files_beside"),
+    "one member for two files": Wrong(
+        "surroundings", 'PORT) && isShared(own, other, "Member") && ', "PORT) && false && ", "files_beside"),
+    "members of two venues as one": Wrong(
+        "surroundings", " && isShared(own, other, port.c_str()))", ")", "files_beside"),
     "files that can't be read as wrong ones": Wrong("surroundings", "        return false;\n    }\n}\n\n/// Whether both",
                                                     "        throw;\n    }\n}\n\n/// Whether both", "files_beside"),
     "a file beside itself": Wrong(
@@ -551,9 +589,10 @@ WRONG = {
     "a look by root's rights": Wrong("surroundings", "    if (!findUser(name, user)) return false;\n", "    return false;\n",
                                      "user_of_a_service"),
     "a look that says nobody": Wrong("main", 'userOf(::geteuid()) << " reads them', 'userOf(0) << " reads them', "user_of_a_service"),
-    "a second edge that goes on in silence": Wrong("member", "    if (isKeptWaiting_)\n", "    if (false)\n",
-                                                   "second_edge_of_a_member"),
-    "a second edge that waits in silence": Wrong("member", "    if (!waits.empty()) sayOfVenue(waits);\n", "", "second_edge_of_a_member"),
+    "a second edge that goes on in silence": Wrong(
+        "venue", "    if (isKeptWaiting_)\n", "    if (false)\n", "second_edge_of_a_member"),
+    "a second edge that waits in silence": Wrong(
+        "venue", "    if (!waits.empty()) sayOfVenue(waits);\n", "", "second_edge_of_a_member"),
     "steps that a look passes over": Wrong("settings", "    needSameSteps(it);\n", "", "other_steps"),
     "an empty file of steps": Wrong("steps", "    if (!std::getline(file, kept)) throw ",
                                     "    if (!std::getline(file, kept)) return true;\n    if (false) throw ", "other_steps"),
@@ -600,9 +639,10 @@ WRONG = {
         "status", 'refusals_total" << member << counts.refusals', 'refusals_total" << member << counts.requests',
         "status_page"),
     "files that a power cut takes": Wrong("files", "!it || (::fsync(it.get()) && errno != EINVAL)", "!it", "power_cuts"),
-    "a turn that stays with who can't read": Wrong("member", "    replay_.reset();\n    turn_.giveBack();\n",
-                                                   "    if (replay_) turn_.giveBack();\n    replay_.reset();\n",
-                                                   "reading_that_fails"),
+    "a record whose folder a power cut takes": Wrong("record", "        syncFoldersOf(database_.path());\n", "", "made_by_one"),
+    "a turn that stays with who can't read": Wrong(
+        "venue", "    replay_.reset();\n    turn_.giveBack();\n",
+        "    if (replay_) turn_.giveBack();\n    replay_.reset();\n", "reading_that_fails"),
     "what the venue says at the end": Wrong("venue_link", "    if (message.byte(35) == '5') return ",
                                             "    if (false) return ", "ended_by"),
     "any amount held meanwhile": Wrong("trader", "return heldBytes_ > MOST_HELD;", "return false;", "flood_meanwhile"),
@@ -614,7 +654,7 @@ WRONG = {
                                                 "what_was_sent", "day"),
     "names that are kept where the edge was stopped": Wrong("record", "    state_.dropBefore = rows.number(12);\n", "",
                                                             "dropping_goes_on"),
-    "names dropped from the beginning on": Wrong("names", "    else droppedTo_ = some.back();", "    else droppedTo_ = 0;",
+    "names dropped from the beginning on": Wrong("names", "    if (!isDone) droppedTo_ = some.back();", "    if (!isDone) droppedTo_ = 0;",
                                                  "dropping_goes_on"),
     "heartbeats at any rate": Wrong("intake", "LOOKED = 10", "LOOKED = 0", "rate_of_looks"),
     "wrong passwords of all addresses": Wrong("delays", "    if (all_.size() >= ADDRESSES && ", "    if (false && ",
@@ -624,6 +664,25 @@ WRONG = {
         "member_session", "    if (!hasRoom) say(", "    if (false) say(", "handed_over"),
     "places of who has one more": Wrong("guests", "most->second.count > own.count + 1", "most->second.count > own.count",
                                         "even_shares"),
+    "two lines of one user": Wrong("settings", "    if (found.size() > 1) refuse(", "    if (false) refuse(", "lines_of_passwords"),
+    "a password of no byte": Wrong("settings", '"has an empty password of "', '"has no password of "', "lines_of_passwords"),
+    "blanks behind a password": Wrong("settings", " || it == '\\r'; };", "; };", "lines_of_passwords"),
+    "blanks in front of a password": Wrong("settings", "    if (isBlank(password.front())) refuse(", "    if (false) refuse(", "lines_of_passwords"),
+    "a password that AllowAnyone seems to take away": Wrong("main", "        tellOfIdentity(it.member);\n", "", "anyone_with_a_password"),
+    "a word for each session where anyone comes in": Wrong("main", "(it.username.empty() && it.certificate.empty())", "false",
+                                                           "anyone_with_a_password"),
+    "help that is an error": Wrong("main", '    if (all == std::vector<std::string>{"--help"}) return actForHelp();\n', "", "test_help"),
+    "help that nobody got": Wrong("main", "return std::cout.flush() ? 0 : 1;\n}\n\n/// Whether these", "return 0;\n}\n\n/// Whether these",
+                                  "test_help"),
+    "a start that systemd isn't told": Wrong("supervisor", "        starter_.tell();\n", "", "told_to_systemd"),
+    "a name that is taken for a path": Wrong("starter", "    if (path[0] == '@') at.sun_path[0] = '\\0';\n", "", "told_to_systemd"),
+    "a socket of systemd for all that it starts": Wrong("starter", "    ::unsetenv(name);\n", "", "told_to_systemd"),
+    "systemd that isn't there without a word": Wrong("starter", "    if (!system_.empty() && !isTold(system_)) say(",
+                                                     "    if (!system_.empty() && !isTold(system_) && false) say(", "told_to_systemd"),
+    "a Logon that ends without a word to its operator": Wrong("conversation", "    if (isLogon && !session_->isLoggedOn())\n", "    if (false)\n",
+                                                              "end_behind_a_gap"),
+    "a process that may not be asked, and doesn't run": Wrong("console", "errno == EACCES ? ", "false ? ", "callers"),
+    "pieces of a resend that count as the first message": Wrong("resends", "MsgSeqNum(0)", "MsgSeqNum(1)", "before_the_first_number"),
     "a second long resend that isn't counted": Wrong("resends", "    isCounted_ = false;\n", "", "while_resending"),
     "later resends that aren't logged": Wrong("log", "    again_ = 0;\n", "", "resends_logged"),
     "kinds of lines that are kept": Wrong("quiet", "it = isOver ? kinds_", "it = isOver && it->second.unsaid ? kinds_",
@@ -634,8 +693,9 @@ WRONG = {
     "replaces of who is stopped": Wrong("orders", "return type == 'D' || type == 'G';", "return type == 'D';",
                                         "stop_and_resume", "trader"),
     "a stop that leaves what rests": Wrong(
-        "operators", "    it.sweep = trader_.cancelEach();\n",
-        "    if (it.asked.command.kind != Command::Kind::Stop) it.sweep = trader_.cancelEach();\n", "stop_and_resume"),
+        "operators", "    it.sweep = traders_.cancelEach();\n",
+        "    if (it.asked.command.kind != Command::Kind::Stop) it.sweep = traders_.cancelEach();\n",
+        "stop_and_resume"),
     "a cancel that stops": Wrong("operators", "    if (it.asked.command.kind == Command::Kind::Stop) {\n", "    {\n",
                                  "stop_and_resume"),
     "commands that no event is of": Wrong("operators", "    log_->onEvent(line);\n", "", "stop_and_resume"),
@@ -678,23 +738,26 @@ WRONG = {
                                             "test_status"),
     "a switch that isn't kept": Wrong("switches", "    put_.run(what, now, who);\n", "    (void)who;\n", "test_kept"),
     "a resume that isn't kept": Wrong("switches", "    drop_.run(what);\n", "", "test_kept"),
-    "switches that a start passes over": Wrong("trader", "    switches_.attach();\n", "", "test_kept"),
+    "switches that a start passes over": Wrong(
+        "traders", "    if (desk == FIRST_DESK && shared_.isThere()) shared_.switches().attach();\n", "",
+        "test_kept"),
     "a socket that a kill leaves for ever": Wrong(
         "control_socket", "    if (address) address.clear();\n    Descriptor it", "    Descriptor it", "test_kept"),
     "records without switches that aren't read": Wrong("record", " && found != WITHOUT_SWITCHES", "", "record_of_before"),
     "records that get no switches": Wrong("record", '"; " + SWITCHES +', '"; " +', "record_of_before"),
     "a socket that stays": Wrong("control", "    if (listener_) endControl(", "    if (false) endControl(",
                                  "not_carried_out"),
-    "a command without the venue": Wrong("operators", "    if (!trader_.isReady()) throw ", "    if (false) throw ",
-                                         "not_carried_out"),
+    "a command without the venue": Wrong(
+        "operators", "    if (!traders_.isReady()) throw ", "    if (false) throw ", "not_carried_out"),
     "any symbol halted": Wrong("operators", "!command.symbol.empty() && !switches.knows(command.symbol)", "false",
                                "not_carried_out"),
     "status 0 of what isn't done": Wrong("console", "areDone = it.print(until) && areDone;", "it.print(until);",
                                          "not_carried_out"),
     "wrong words of a command with status 1": Wrong("main", "return asks ? 2 : 1;", "return 1;", "not_carried_out"),
     "a halt of a member's name": Wrong("console", 'what == "all" || isOfOne;', 'what == "all";', "not_carried_out"),
-    "done before the venue has answered": Wrong("operators", "    it.isOver = it.isDone = trader_.isOver(it.sweep);\n",
-                                                "    it.isOver = it.isDone = true;\n", "test_no_answer"),
+    "done before the venue has answered": Wrong(
+        "operators", "    it.isOver = it.isDone = traders_.isOver(it.sweep);\n", "    it.isOver = it.isDone = true;\n",
+        "test_no_answer"),
     "a command that waits for ever": Wrong("operators", "it.isOver = it.isDone || Clock::now() >= it.asked.until;",
                                            "it.isOver = it.isDone;", "test_no_answer"),
     "no word of what may rest": Wrong("trader", "        if (!it.takes(order.first, order.second)) continue;\n",
@@ -716,7 +779,8 @@ WRONG = {
         "control", "!isDeskOf(words.substr(0, end), settings_.member.name(), command.desk) || ", "", "test_callers"),
     "an answer that is waited for without an end": Wrong(
         "console", "left <= 0 || ::poll(&it, 1, static_cast<int>(left)) == 0", "::poll(&it, 1, -1) == 0", "operator_gone"),
-    "callers who say nothing": Wrong("control", " || isSilent;", ";", "test_callers"),
+    "callers who say nothing": Wrong("control", " || (isSilent && !it->isAsking);", ";", "test_callers"),
+    "words that are late by themselves": Wrong("control", " || (isSilent && !it->isAsking);", " || isSilent;", "late_words"),
     "any number of callers": Wrong("control", "callers_.size() < MOST_CALLERS ? ", "true ? ", "test_callers"),
     "a socket of another mode": Wrong("control_socket", "::fchmod(it.get(), 0600) || ", "", "test_callers"),
     "symbols of any letters": Wrong("commands", "return end == std::string::npos || isSymbol(into.symbol);",
@@ -757,7 +821,7 @@ WRONG = {
         "        if (switches_.isStopped()) needAllowed(Request{'D'});\n        if (it.isMassCancel()) {\n",
         "mass_cancel_while_stopped"),
     "mass cancels that aren't kept": Wrong(
-        "cancels", "    it.row = names_.add(textOf(it), Names::Kind::Sweep, it.desk ? it.desk : FIRST_DESK);\n",
+        "cancels", "    it.row = names_.keep(textOf(it), Names::Kind::Sweep, it.desk ? it.desk : FIRST_DESK);\n",
         "    it.row = names_.last();\n", "mass_cancel_killed"),
     "mass cancels that a start passes over": Wrong("trader", "    cancels_.attach();\n", "", "mass_cancel_killed"),
     "mass cancels that nobody asks the venue about": Wrong("trader", "    else if (cancels_.isOwed()) probe();\n", "",
@@ -782,14 +846,15 @@ WRONG = {
         "test_terms"),
     "lost requests that are good till they are cancelled": Wrong("names", "kind IN ('r', 'g')", "kind = 'r'", "lost_for_long"),
     "days that end behind what waits": Wrong(
-        "member", "    trader_.endRecovery([this](int desk) { return session(desk).isOn(); });\n    endOrders();\n",
-        "    trader_.endRecovery([this](int desk) { return session(desk).isOn(); });\n", "front_of_what_waits"),
+        "venue",
+        "    trader_.endRecovery([this](int desk) { return host_.hasClient(desk); });\n    "
+        "host_.endOrdersOf(trader_);\n",
+        "    trader_.endRecovery([this](int desk) { return host_.hasClient(desk); });\n", "front_of_what_waits"),
     "days that end no orders": Wrong("member", "it.lookAtDay();\n    endOrders();\n", "it.lookAtDay();\n", "test_terms"),
     "ends of orders at any look": Wrong(
-        "day", "    const long end = record_.ofMember().change().ordersEnded = ", "    const long end = ", "ended_once"),
+        "day", "    const long end = venue.change().ordersEnded = ", "    const long end = ", "ended_once"),
     "ends of orders that a kill forgets": Wrong(
-        "record", " &&\n           state_.dropBefore == written_.dropBefore && state_.ordersEnded == written_.ordersEnded;",
-        " && state_.dropBefore == written_.dropBefore;", "end_of_nothing"),
+        "record", " &&\n           state_.ordersEnded == written_.ordersEnded;", ";", "end_of_nothing"),
     "ends of orders that a start forgets": Wrong("record", "    state_.ordersEnded = rows.number(15);\n", "", "ended_once"),
     "orders of a record of before that end at once": Wrong(
         "record", "                  std::to_string(std::time(nullptr)) + \"; PRAGMA", '                  "0; PRAGMA',
@@ -914,12 +979,14 @@ WRONG = {
     "a collar round the first price for ever": Wrong(
         "limiter", "    return last || found == limits_.reference.end() ? last : found->second;\n",
         "    return found == limits_.reference.end() ? last : found->second;\n", "test_collar"),
-    "a market that nobody follows": Wrong("member", "    if (!needsMarket() || !trader_.isReady() || ", "    if (true || ",
-                                          "test_collar"),
-    "a market that is followed once": Wrong("member", "    followAt_ = Clock::now() + REST;\n",
-                                            "    followAt_ = Clock::now() + std::chrono::hours(1);\n", "market_followed"),
-    "a market that each member follows": Wrong("member", "    if (!needsMarket() || !trader_.isReady() || ",
-                                               "    if (!trader_.isReady() || ", "market_followed"),
+    "a market that nobody follows": Wrong(
+        "venue", "    if (!needsMarket() || !trader_.isReady() || ", "    if (true || ", "test_collar"),
+    "a market that is followed once": Wrong(
+        "venue", "    followAt_ = Clock::now() + REST;\n", "    followAt_ = Clock::now() + std::chrono::hours(1);\n",
+        "market_followed"),
+    "a market that each member follows": Wrong(
+        "venue", "    if (!needsMarket() || !trader_.isReady() || ", "    if (!trader_.isReady() || ",
+        "market_followed"),
     "a program that a killed edge leaves behind": Wrong("replay", "!::prctl(PR_SET_PDEATHSIG, SIGKILL) && ", "",
                                                         "market_followed"),
     "trades of others that no collar sees": Wrong("market", "    take(report);\n}\n", "}\n", "test_collar"),
@@ -945,11 +1012,11 @@ WRONG = {
         "orders", "return price && timeInForce != '3' && timeInForce != '4';", "return price && (!timeInForce || timeInForce == '1');",
         "self_trade_under_way", "exposure"),
     "old orders that go for a replace which is refused": Wrong("trader", "    if (isTaken && member_", "    if (member_", "of_no_replace"),
-    "a market that is read where nobody tells": Wrong("member", "    if (!follower_) return;\n", "", "market_behind"),
-    "a market that ends its member where it can't be told": Wrong("member", "        loseMarket(fault.what());\n", "        throw;\n",
-                                                                  "cannot_be_followed"),
-    "half a command that is taken for a whole one": Wrong("books", "return commands_ > 0 ? commands_ - 1 : 0;", "return commands_;",
-                                                          "half_a_command", "member"),
+    "a market that is read where nobody tells": Wrong("venue", "    if (!follower_) return;\n", "", "market_behind"),
+    "a market that ends its member where it can't be told": Wrong(
+        "venue", "        loseMarket(fault.what());\n", "        throw;\n", "cannot_be_followed"),
+    "half a command that is taken for a whole one": Wrong(
+        "books", "return commands_ > 0 ? commands_ - 1 : 0;", "return commands_;", "half_a_command", "venue"),
     "other desks that nobody looks at": Wrong("market", "    if (desk != desks_.end()) desk->second.take(report);\n", "",
                                               "trade_of_a_firm"),
     "desks of all firms": Wrong("market", "    for (const std::string &desk : desks) desks_.emplace(desk, ticks);\n",
@@ -964,7 +1031,7 @@ WRONG = {
     "a page of values without their decimals": Wrong("money", "    digits.insert(digits.size() - 9, 1, '.');\n",
                                                      "    digits.erase(digits.size() - 9);\n", "test_figures", "status"),
     "limits refuse and nothing is kept": Wrong(
-        "trader", "    if (Orders::isName(it.name) && !names_.isKnown(it.name, it.desk))\n", "    if (it.type == 'q')\n",
+        "trader", "    if (Orders::isName(it.name) && !isKnown(it.name, it.desk))\n", "    if (it.type == 'q')\n",
         "test_quantity"),
     "symbols to trade that the venue hasn't": Wrong("order_limits", "        if (!ticks.count(word)) throw ", "        if (false) throw ",
                                                     "wrong_settings"),
@@ -981,17 +1048,19 @@ WRONG = {
                                            "    levels[level.price] = level;\n", "market_changes"),
     "bids of any depth": Wrong("books", "firstOf(bids_.rbegin(), bids_.rend(), most)",
                                "firstOf(bids_.rbegin(), bids_.rend(), bids_.size())", "market_once"),
-    "a last command that never comes": Wrong("member", "    if (!books_.isSettled() && isCommandWhole()) books_.settle();\n",
-                                             "", "market_changes"),
-    "parts of commands": Wrong("member", "Clock::now() >= settleAt_ && !comesMore;", "Clock::now() >= settleAt_ || comesMore;",
-                               "whole_commands"),
+    "a last command that never comes": Wrong(
+        "venue", "    if (!books_.isSettled() && isCommandWhole()) books_.settle();\n", "", "market_changes"),
+    "parts of commands": Wrong(
+        "venue", "Clock::now() >= settleAt_ && !comesMore;", "Clock::now() >= settleAt_ || comesMore;",
+        "whole_commands"),
     "levels that wait for no command": Wrong("books", "        takeLevel(it.rest(), it.size());\n",
                                              "        takeLevel(it.rest(), it.size());\n        settle();\n", "whole_commands"),
-    "a market of long ago": Wrong("member", "    return follower_ && !books_.isOld() && ", "    return follower_ && ", "market_of_before"),
+    "a market of long ago": Wrong(
+        "venue", "    return follower_ && !books_.isOld() && ", "    return follower_ && ", "market_of_before"),
     "a market that has begun to come": Wrong("books", "    isOld_ = isOld_ && !isOpen_;\n    apply();\n}\n\n/// All of the last command has come.\nvoid Books::apply() {\n",
                                              "    apply();\n}\n\nvoid Books::apply() {\n    isOld_ = false;\n", "market_of_before"),
     "a market behind all reports": Wrong(
-        "member", "!books_.isOld() && Clock::now() < lateAt_;", "!books_.isOld();", "market_behind_reports"),
+        "venue", "!books_.isOld() && Clock::now() < lateAt_;", "!books_.isOld();", "market_behind_reports"),
     "a market for who may not see it": Wrong("market_data", "        if (!member_.market.isOpen) throw ", "        if (false) throw ",
                                              "market_closed"),
     "any number of requests": Wrong("market_data", "    if (requests_.size() >= MOST_REQUESTS)\n", "    if (false)\n", "market_bounds"),
@@ -1043,8 +1112,8 @@ WRONG = {
                                         "    return !symbol.empty();\n", "test_halts"),
     "halts that are told once": Wrong("securities", "    told_.clear();\n    isUnsure_ = true;\n", "", "test_halts"),
     "limits that no list has": Wrong(
-        "securities", "        if (trader_.limiter(settings_.member.desk).isSet(limit))\n", "        if (false)\n",
-        "security_list"),
+        "securities", "        if (traders_.of(symbol).limiter(settings_.member.desk).isSet(limit))\n",
+        "        if (false)\n", "security_list"),
     "how an order was": Wrong("open_orders", "        into.filled = report.number(14);\n", "", "order_status", "trader"),
     "orders that end without a trace": Wrong(
         "open_orders", "        else put(report, whose, it);\n", "", "order_status", "trader"),
@@ -1054,7 +1123,8 @@ WRONG = {
                                                    "        ended_.erase(ended_.begin());\n", "last_ended_orders", "trader"),
     "replaced orders of new terms": Wrong("open_orders", "        if (status == '5' && rested != orders_.end()) ", "        if (false) ",
                                           "order_status", "trader"),
-    "orders that nobody knows yet": Wrong("order_status", "    if (!trader_.knowsAll())\n", "    if (false)\n", "status_in_doubt"),
+    "orders that nobody knows yet": Wrong(
+        "order_status", "        if (!it->knowsAll())\n", "        if (false)\n", "status_in_doubt"),
     "replaces that nobody knows of": Wrong("order_status", "underWay->second.mayRest());", "underWay->second.isOrder());", "status_under_way"),
     "any name of a question about many": Wrong("order_status", "    if (!isOfOne && !Orders::isName(", "    if (false && !Orders::isName(",
                                                "mass_status"),
@@ -1084,8 +1154,9 @@ WRONG = {
                                               "    const bool isExpired = false && ", "expired_status"),
     "orders of any symbol": Wrong("order_status", "    if (!isAskedFor(asked, told.getField(FIELD::Symbol), told.getField(FIELD::Side)[0]))\n",
                                   "    if (false)\n", "order_status"),
-    "as many orders as there are": Wrong("order_status", "    if (numbers.size() > mostOrders())\n", "    if (false)\n", "many_statuses"),
-    "no last order": Wrong("order_status", "        if (number == numbers.back()) ", "        if (false) ", "mass_status"),
+    "as many orders as there are": Wrong(
+        "order_status", "    if (places.size() > mostOrders())\n", "    if (false)\n", "many_statuses"),
+    "no last order": Wrong("order_status", "        if (&at == &places.back()) ", "        if (false) ", "mass_status"),
     "trades of any order": Wrong("own_trades", "        if (!text.empty() && text != stored.text(tag)) return false;\n", "        (void)text;\n",
                                  "own_trades"),
     "trades of all days": Wrong("own_trades", "    return from.empty() || (day >= std::min(from, to) && day <= std::max(from, to));\n",
@@ -1095,7 +1166,7 @@ WRONG = {
     # Sessions of copies.
     "copies of what was copied": Wrong("copies", "    if (number <= (of->held.empty() ? of->told : of->held.back().report)) return;\n", "",
                                        "test_copies"),
-    "copies that nobody has kept": Wrong("copies", "        put_.run(it.name, it.told);\n", "", "reader_away"),
+    "copies that nobody has kept": Wrong("copies", "        put_.run(keyOf(it.name), it.told);\n", "", "reader_away"),
     "copies of any journal": Wrong("copies", "    for (const Of &it : all_) needTold(it);\n", "", "another_journal"),
     "copies without a name": Wrong("copies", "    return body + \"453=1", "    if (body.empty()) return body + \"453=1", "test_copies"),
     "names in another field": Wrong("copies", "return \"115=\" + compId", "return \"128=\" + compId", "names_in_the_header"),
@@ -1113,8 +1184,8 @@ WRONG = {
                                            "copies_over_a_day"),
     "names of any bytes": Wrong("told_names", "std::all_of(into.begin(), into.end(), [](char it) { return it >= ' ' && it <= '~'; })", "true",
                                 "false_names"),
-    "a queue for who takes no copies": Wrong("member", "    copies_->tell([this] { return mayTellCopies(); });\n",
-                                             "    copies_->tell([] { return true; });\n", "reader_of_nothing"),
+    "a queue for who takes no copies": Wrong(
+        "member", "it.tell([this] { return mayTellCopies(); });\n", "it.tell([] { return true; });\n", "reader_of_nothing"),
     "copies that wait for the clock": Wrong("copies", "(count == MOST_AT_ONCE || !hasRoom());", "count == MOST_AT_ONCE;", "held_copies"),
     "copies on a full disk": Wrong("copies", "mayTell = isWhole_ && hasDisk();", "mayTell = isWhole_;", "no_room_for_copies"),
     "requests in a session of copies": Wrong("conversation", " || isOfTraders(judged))", ")", "nothing_to_ask"),
@@ -1160,14 +1231,15 @@ WRONG = {
                                  "    (void)command;\n    return true;\n", "test_doors"),
     "an end of the journal that is said once": Wrong("copies", "    if (isWhole_ && isCutOff_) reads();\n", "", "journal_lost_again"),
     "copies that seem to go on": Wrong("status", "(copies.isCutOff() ? ", "(false ? ", "journal_lost_again"),
-    "copies that are served unread": Wrong("member", "    if (copies_->isWhole()) state_ = ",
-                                           "    if (copies_->isWhole() || reads) state_ = ", "another_journal"),
+    "copies that are served unread": Wrong(
+        "member", "    if (isWhole) state_ = ", "    if (isWhole || reads) state_ = ", "another_journal"),
     "readers of copies let in unread": Wrong("logons", "return areCopiesThere_ ? ", "return true ? ", "journal_unread"),
     "a day of copies in one turn": Wrong("day", "    if (isInPieces(from, end)) owed_.begin(from, end);\n    const std::size_t count = owes() ? 0 : ",
                                          "    const std::size_t count = ", "long_away"),
     "pieces that a start forgets": Wrong("owed", "    if (isThere()) put_.run(desk, next_, end_, sender_, count_);\n", "", "told_again_later"),
-    "pieces on a full disk": Wrong("member", "    if (first().owes() && copies_->hasDisk(true)) ", "    if (first().owes()) ",
-                                   "told_again_later"),
+    "pieces on a full disk": Wrong(
+        "member", "    if (first().owes() && copies_.front().hasDisk(true)) ", "    if (first().owes()) ",
+        "told_again_later"),
     "pieces over a gap": Wrong("day", "    passStep();\n    const long from", "    const long from", "told_again_later"),
     "readers between the pieces": Wrong("conversation", "    if (why.empty() && day_.owes()) ", "    if (false) ", "told_again_later"),
     "numbers between the pieces": Wrong("numbering", "    if (day_.owes()) throw ", "    if (false) throw ", "told_again_later"),
@@ -1181,8 +1253,8 @@ WRONG = {
     "numbers of desks that a start passes over": Wrong("record", "    if (hasDesks) lookAtDesks();\n", "", "numbers_of_desks"),
     "numbers of desks that no table gets": Wrong("record", "            writeDesk_.run(now.sender,", "            if (false) writeDesk_.run(now.sender,",
                                                  "numbers_of_desks"),
-    "records of desks for an edge of before": Wrong("record", "std::to_string(WITH_DESKS));", "std::to_string(VERSION));",
-                                                    "record_without_desks"),
+    "records of desks for an edge of before": Wrong(
+        "record", "    version_ = std::max(version_, WITH_DESKS);\n", "", "record_without_desks"),
     "a gap of the first desk alone": Wrong("record", "        it.sender += STEP;\n", "        if (desk == FIRST_DESK) it.sender += STEP;\n",
                                            "older_copy_of_desks"),
     "messages of all desks that go with a day": Wrong("store", "own_.state().sender), placeOf(own_.desk() + 1, 0));\n",
@@ -1214,8 +1286,9 @@ WRONG = {
         "client_of_a_desk_goes"),
     "orders of all desks in an answer": Wrong("order_status", "        if (it.second.desk == member_.desk && isAskedFor(", "        if (isAskedFor(",
                                               "questions_of_desks"),
-    "an answer about another desk's name": Wrong("order_status", "names_.numberOf(name, member_.desk)", "names_.numberOf(name, FIRST_DESK)",
-                                                 "questions_of_desks"),
+    "an answer about another desk's name": Wrong(
+        "order_status", "names.numberOf(name, member_.desk)", "names.numberOf(name, FIRST_DESK)",
+        "questions_of_desks"),
     "trades of the first desk": Wrong("own_trades", "      record_(record, member.desk),\n", "      record_(record, FIRST_DESK),\n",
                                       "questions_of_desks"),
     "copies in the name of the first desk": Wrong("told_names", '(it.desk == FIRST_DESK ? "" : compIdOf(it.desk))', '""', "test_copies_of_desks"),
@@ -1252,7 +1325,7 @@ WRONG = {
                                                           "swapped_desks"),
     "CompIDs that can't be read": Wrong("desk_ids", "line[1] != ' ' || compId.empty())", "false)", "swapped_desks"),
     "an empty file of CompIDs": Wrong("desk_ids", "    if (all.empty()) throw ", "    if (false) throw ", "swapped_desks"),
-    "a look that adds a desk": Wrong("record", "std::to_string(WITH_DESKS));\n", "std::to_string(WITH_DESKS));\n    commit();\n",
+    "a look that adds a desk": Wrong("record", "    database_.run(std::string(DESKS) + rows +", "    commit();\n    database_.run(std::string(DESKS) + rows +",
                                      "adds_no_desk"),
     "a look that keeps CompIDs": Wrong("process", "    if (command.isQuestion()) needSameDesks(settings);\n    else keepDesks(settings);\n",
                                        "    keepDesks(settings);\n", "adds_no_desk"),
@@ -1282,7 +1355,7 @@ WRONG = {
                                                   "read_.of(static_cast<long>(FIRST_DESK));", "long_backlog_of_a_desk"),
     "what the venue tells in front of a desk's pieces": Wrong("trader", "    if (!isAnyOwing) return false;\n",
                                                               "    if (!isAnyOwing || member_.number) return false;\n", "beside_a_long_backlog"),
-    "what waited for a desk's pieces, and stays": Wrong("member", "    trader_.takeHeld();\n", "", "beside_a_long_backlog"),
+    "what waited for a desk's pieces, and stays": Wrong("member", "    each(venues_, [](Venue &it) { it.trader().takeHeld(); });\n", "", "beside_a_long_backlog"),
     "what comes behind what waits": Wrong("trader", "!isReady_ || !held_.empty() || hasToWait", "!isReady_ || hasToWait", "beside_a_long_backlog"),
     "desks that wait for one another's venue": Wrong("trader", "seat.fullAt = Bucket::Clock::now();", "heardAt_ = Bucket::Clock::now();",
                                                      "patience_of_each_desk"),
@@ -1292,14 +1365,14 @@ WRONG = {
                                                         "        refuse(Limit::OpenValue, it, EXCEEDS,\n", "value_of_all_desks_told"),
     "late copies that say nothing of their desk": Wrong("names", "!isOfOne && record_.hasHadDesks(),\n", "false,\n", "late_copies_of_desks"),
     "an IN that waits for a new day": Wrong("numbering", "    if (out != next) needNumber(", "    needNumber(", "in_behind_all_numbers"),
-    "markets side by side": Wrong("member", " || !marketsTurn_->tryTake())\n", ")\n", "markets_by_turns"),
-    "a market's turn that ends before its reading": Wrong("member", "    if (follower_ && books_.hasCome()) marketsTurn_->giveBack();\n",
+    "markets side by side": Wrong("venue", " || !marketsTurn_->tryTake())\n", ")\n", "markets_by_turns"),
+    "a market's turn that ends before its reading": Wrong("venue", "    if (follower_ && books_.hasCome()) marketsTurn_->giveBack();\n",
                                                           "    if (follower_) marketsTurn_->giveBack();\n", "markets_by_turns"),
-    "a market's turn that isn't given back": Wrong("member", "    if (follower_ && books_.hasCome()) marketsTurn_->giveBack();\n", "",
+    "a market's turn that isn't given back": Wrong("venue", "    if (follower_ && books_.hasCome()) marketsTurn_->giveBack();\n", "",
                                                    "markets_by_turns"),
-    "a market's turn while the venue is busy": Wrong("member", "    if (follower_ && books_.hasCome()) marketsTurn_->giveBack();\n",
+    "a market's turn while the venue is busy": Wrong("venue", "    if (follower_ && books_.hasCome()) marketsTurn_->giveBack();\n",
                                                      "    if (follower_ && !books_.isOld()) marketsTurn_->giveBack();\n", "beside_a_busy_venue"),
-    "a market that is behind as long as reports come": Wrong("member", "    if (books_.outputs() >= lateFor_) {\n",
+    "a market that is behind as long as reports come": Wrong("venue", "    if (books_.outputs() >= lateFor_) {\n",
                                                              "    if (books_.outputs() >= trader_.counts().lastReport) {\n", "beside_many_reports"),
     "a backlog that goes with its desk": Wrong("record", "        if (!hasDesk(desk)) return;  // It was told nothing,", "        //",
                                                "backlog_of_a_desk_that_has_gone"),
@@ -1313,7 +1386,7 @@ WRONG = {
     "a Logout whose words nobody reads": Wrong("conversation", '(farewell_.empty() ? "" : ": " + shown(farewell_))', 'std::string()', "words_of_a_logout"),
     "words of the last Logout for each end": Wrong("conversation", '    farewell_ = isLoggingOut_ ? judged.text(FIX::FIELD::Text) : "";\n',
                                                    "    if (isLoggingOut_) farewell_ = judged.text(FIX::FIELD::Text);\n", "words_of_a_logout"),
-    "a journal that isn't there without a word": Wrong("main", "    tellOfJournal(members.front().venue.journal);", "", "what_is_not_there"),
+    "a journal that isn't there without a word": Wrong("main", "tellOfJournal(it);", "(void)it;", "what_is_not_there"),
     "passwords that are nowhere and can't be read": Wrong("settings", "    if (!isSeen && (errno == ENOENT || errno == ENOTDIR)) throw ",
                                                           "    if (false) throw ", "what_is_not_there"),
     "a reading that fails nowhere": Wrong("replay", "the journal \" + journal_ + \": \" +", "the journal: \" +", "market_followed"),
@@ -1322,6 +1395,138 @@ WRONG = {
                                                       "copies_of_an_operator", "cancels"),
     "copies of an operator's cancels without a word": Wrong(
         "told_names", "        it.isOfOperator = kind[0] == OF_OPERATOR || kind[0] == OF_NO_DESK_BY_OPERATOR;\n", "", "copies_of_an_operator"),
-    "what one order's cancel is said to be": Wrong("operators", "    if (it.count == 1) return ", "    if (false) return ", "stop_and_resume"),
+    "what one order's cancel is said to be": Wrong("operators", "    if (count == 1) return ", "    if (false) return ", "stop_and_resume"),
     "a desk's pieces of which no status tells": Wrong("status", '(isOwed ? ", is told again', '(false ? ", is told again', "long_backlog_of_a_desk"),
+    "reports of no venue": Wrong(
+        "reports", "    it.copyBehind(letter_, report, FIELD::ExecID);\n", "    it.copy(report, FIELD::ExecID);\n",
+        "test_two_venues"),
+    "orders of no venue": Wrong(
+        "order_status", '(order.orderId == NONE ? "" : at.trader->venue().letter) + order.orderId', "order.orderId",
+        "test_two_venues"),
+    "names that another venue knows": Wrong("names", "    it.isElsewhere = !it.number;\n", "", "test_two_venues"),
+    "requests that go to the first venue": Wrong(
+        "traders", "(isOfAll ? **at : of(head.symbol)).asked(desk, message);",
+        "(isOfAll ? **at : first()).asked(desk, message);", "test_two_venues"),
+    "a cancel of all at one venue": Wrong(
+        "trader", "    if (it.symbol.empty()) count += elsewhere_.sweep(those, words);\n", "", "test_two_venues"),
+    "cancels of which each is kept for a venue": Wrong(
+        "cancels", "        return other.isLast && (!other.desk", "        return false && (!other.desk", "cancels_for_a_venue_away"),
+    "refusals among the numbers of a late venue": Wrong(
+        "names", "        return isBeside() ? addBeside(name, kind, desk) : ", "        return ", "late_venue_with_a_past", "trader"),
+    "cancels of what a record knows of a late venue": Wrong(
+        "cancels", "names_.isBeside() ? Names::GREATEST + 1 : names_.last() + 1;", "names_.last() + 1;", "late_venue_with_a_past"),
+    "cancels for a late venue at each start": Wrong(
+        "cancels", "        names_.forget(it.row);\n        it.upTo", "        it.upTo", "late_venue_with_a_past"),
+    "names by numbers of one venue": Wrong(
+        "trader", " || (desk == FIRST_DESK && elsewhere_.isNameless(name))", "", "names_of_another_venue"),
+    "orders of before a kill at a late venue": Wrong(
+        "trader", "        if (names_.own().isUnread() && seat.wasLeft) seat.isCancelDue = true;\n", "", "kill_and_a_late_venue"),
+    "orders that a day's end spared at a late venue": Wrong(
+        "trader", "names_.own().isUnread() && seat.wasLeft) ", "names_.own().isUnread() && seat.settings.limits.cancelOnDisconnect) ",
+        "kill_and_a_late_venue"),
+    "venues of a record that is damaged": Wrong(
+        "record", "        forgetVenues();  // Of which some may have been read.\n", "", "damaged_record_of_venues"),
+    "a venue that closes and is waited for": Wrong("venue", "    if (isLoggingOn_ || ", "    if (", "venue_that_closes"),
+    "a venue that takes nothing and is waited for": Wrong(
+        "trader", "    return !venue_.letter.empty() && Bucket::Clock::now() - PATIENCE >= fullSince_;\n", "    return false;\n",
+        "venue_that_takes_nothing"),
+    "settled requests of a turn that is taken back": Wrong(
+        "record", "    if (!firstLetter_.empty()) state_.settled = opened_.settled;", "    ", "taken_back_at_two_venues"),
+    "settled requests at a second venue of a turn that is taken back": Wrong(
+        "record", "        it.second.now.settled = it.second.before.settled;\n", "", "taken_back_at_the_first_venue"),
+    "a new day that is taken back": Wrong(
+        "record", "        hasBegunAnew_ = letters_.size() > 1;\n", "", "new_day_and_a_late_venue", "store"),
+    "a new day behind which no number steps": Wrong(
+        "record", "        hasBegunAnew_ = letters_.size() > 1;\n", "        hasLetOn_ = hasLetOn_ || letters_.size() > 1;\n",
+        "new_day_and_a_late_venue", "store"),
+    "a first venue by the order of settings": Wrong(
+        "steps", "        if (lineOf(settings, it) == kept) return it.letter;\n", "        (void)it;\n", "first_letter"),
+    "a question that keeps steps": Wrong(
+        "process", "    if (!isOfVenues || !command.isQuestion()) keepSteps(settings);\n", "    keepSteps(settings);\n", "first_letter"),
+    "symbols of a letter that is no more": Wrong("steps", "            if (settings.ticks.count(symbol))\n", "            if (false)\n", "steps_of_a_venue"),
+    "a port of another venue": Wrong("trader", "    if (!isRecovering_) needOwn(report);\n", "    if (!isRecovering_) {}\n", "exchanged_ports"),
+    "a port of another venue that has had such numbers": Wrong("trader", "    if (reason == DUPLICATE) fail(", "    if (false) fail(",
+                                                               "ports_of_a_venue_with_orders"),
+    "fills of another venue's orders": Wrong("trader", "    if (!venue_.trades(report.text(55))) fail(", "    if (false) fail(",
+                                             "ports_of_a_venue_with_orders"),
+    "refusals of another venue's orders in a journal": Wrong(
+        "trader", "return !venue_.trades(report.text(55));", "return false;", "ports_of_a_venue_with_orders"),
+    "refusals of another venue's cancels in a journal": Wrong(
+        "trader", "    return number > names_.state().told.reject && ", "    return !number && ", "ports_of_a_venue_with_orders"),
+    "copies of what is another venue's": Wrong(
+        "copies", "    if (!place_.letter.empty() && !place_.trades(report.text(55))) return;", "    ", "ports_of_a_venue_with_orders"),
+    "cancels that are lost on their way to a venue": Wrong(
+        "trader", " || settled < it.second->cancelledTo) cancelAll", ") cancelAll", "cancels_lost_on_their_way"),
+    "refusals among the numbers of a venue that is away": Wrong(
+        "names", "!letter_.empty() && !isVenueThere_; }", "!letter_.empty() && own_.isUnread(); }", "refused_while_a_venue_is_away", "trader"),
+    "a cancel of all that a full venue refuses": Wrong(
+        "traders", "return it->takesMassCancel(desk); });\n", "return it->isReady(); });\n", "cancel_of_all_beside_a_full_venue"),
+    "a cancel of all that a venue without numbers refuses": Wrong(
+        "trader", " && hasNumbersFor(count);\n", " && (count || true);\n", "cancel_of_all_beside_a_venue_without_numbers"),
+    "a venue that takes a little and is waited for anew": Wrong(
+        "trader", "    if (link_.unsent() < MOST_UNSENT / 2) fullSince_", "    if (link_.unsent() < MOST_UNSENT) fullSince_",
+        "venue_that_takes_nothing"),
+    "a journal that is read each second for copies": Wrong(
+        "copies", "!again_.count() ? REST : std::min(2 * again_, MOST_REST);", "!again_.count() ? REST : REST;", "journal_that_lacks_what_was_copied"),
+    "a journal that is read each second": Wrong(
+        "venue", "    else again_ = std::min(2 * again_, MOST_REST);\n", "", "journal_that_cant_be_read"),
+    "names beside a venue's numbers that stay": Wrong(
+        "names", "    else droppedTo_ = GREATEST;", "    else changed.dropBefore = droppedTo_ = 0;", "names_beside_a_venues_numbers"),
+    "orders in the middle of a journal": Wrong(
+        "trader", "    const std::size_t now = isReady_ ? rest + underWay_.ordersOf(desk) : 0;\n",
+        "    const std::size_t now = rest + underWay_.ordersOf(desk);\n", "reading_that_breaks_off"),
+    "a venue that is lost while it is read and is waited for": Wrong("venue", " || trader_.isRecovering()) trader_", ") trader_",
+                                                                     "venue_that_is_lost_while_it_is_read"),
+    "no quiet moment beside a venue that is away": Wrong(
+        "trader", "return (isReady_ || venue_.letter.empty()) && ", "return ", "quiet_moments_while_cancels_wait", "traders"),
+    "a connection that isn't made yet": Wrong(
+        "venue_link", "    if (::getpeername(socket_.get(), reinterpret_cast<sockaddr *>(&peer), &length)) return true;", "    ", "connection_that_isnt_made"),
+    "a long reading that all wait for": Wrong("trader", " && !hasFailed_ && !isLong;\n", " && !hasFailed_;\n", "long_reading"),
+    "what rests at a venue that nobody has heard": Wrong(
+        "trader", '    if (!venue_.letter.empty() && names_.own().isUnread()) return "what rests there isn\'t known";\n', "", "late_venue_with_a_past"),
+    "a Logon that waits for all venues": Wrong(
+        "traders", "    return isReady() && !isAny([](const Trader &it) { return it.isReadFirst(); });\n",
+        "    return !isAny([](const Trader &it) { return !it.isReady(); });\n", "test_venue_away"),
+    "cancels that are lost with a venue": Wrong(
+        "cancels", "    keep(it);\n    sweeps_.insert(sweeps_.begin(), it);\n", "", "test_venue_away"),
+    "a stop that leaves a venue which is away": Wrong(
+        "traders", "it->isReady() ? it->cancelEach() : it->owe()", "it->isReady() ? it->cancelEach() : Sweep()",
+        "operator_and_a_venue"),
+    "a venue's fault that is the member's": Wrong(
+        "member", "            if (parts.size() == 1) throw;\n", "            throw;\n", "venue_that_never_was"),
+    "a record of venues for any settings": Wrong(
+        "record", "        if (isNew) return;\n", "        return;\n", "second_venue"),
+    "venues by their order": Wrong(
+        "record", "    const bool isFirst = letter == firstLetter_, ", "    const bool isFirst = !venue, ",
+        "order_of_venues"),
+    "venues that a start passes over": Wrong(
+        "record", "    if (version_ == WITH_VENUES) lookAtVenues();\n", "", "order_of_venues"),
+    "numbers of venues that no turn keeps": Wrong(
+        "record", "        turns_.putVenue(", "        if (false) turns_.putVenue(", "order_of_venues"),
+    "numbers of venues that no table has": Wrong(
+        "record", "        writeVenue_.run(", "        if (false) writeVenue_.run(", "older_copy_and_a_late"),
+    "steps of the first venue alone": Wrong(
+        "steps", 'isOfBefore && venue.letter == firstVenue(settings) ? "" : venue.letter', '""', "steps_of_a_venue"),
+    "values of one venue": Wrong("limiter", " + elsewhere_.openValue(it.desk);\n", ";\n", "limits_over_venues"),
+    "counts of one venue": Wrong(
+        "trader", "return elsewhere_.openOrders(desk); };", "return std::size_t(0 * desk); };", "limits_over_venues"),
+    "limits that know no other venue": Wrong("trader", " || isUnknownElsewhere(seat)", "", "limits_over_venues"),
+    "ends of days of the first venue": Wrong("day", "ended = venue.state().ordersEnded;",
+                                             "ended = venue.ofMember().state().ordersEnded;", "day_over_venues"),
+    "what was told that is taken back": Wrong("traders", "    shared_.letsOn();\n", "", "older_copy_and_a_late"),
+    "a market of who isn't there": Wrong(
+        "market_data", " && books_.isThere(sight.symbol);\n", ";\n", "market_of_two_venues"),
+    "copies by members alone": Wrong(
+        "copies", "    return own_.isFirst() ? member : ", "    return true ? member : ", "kills_of_everything"),
+    "two venues with one journal": Wrong(
+        "settings", "    if (one.journal == other.journal) throw ", "    if (false) throw ", "settings_of_venues"),
+    "two venues with one port": Wrong(
+        "settings", "std::abs(one.port - other.port) < MEMBERS)", "false)", "settings_of_venues"),
+    "settings of no venue": Wrong(
+        "settings",
+        "            if (from.has(name) && !std::count(letters.begin(), letters.end(), std::string(1, letter)))\n",
+        "            if (false)\n", "settings_of_venues"),
+    "settings of a venue without a letter": Wrong(
+        "settings", '        if (from.has(front) && !letters.empty() && front != "VenueEvents")\n',
+        "        if (false)\n", "settings_of_venues"),
 }
