@@ -8,12 +8,13 @@
 #include "feed.h"
 #include "lines.h"
 #include "page.h"
+#include "starter.h"
 
 namespace {
 
 const char *const USAGE =
     "usage: gikvand-feed [--check] SETTINGS\n"
-    "       gikvand-feed --version";
+    "       gikvand-feed --help|--version";
 
 /// A descriptor of the signals that end it, which are held back from all threads.
 edge::Descriptor ends() {
@@ -30,7 +31,14 @@ int actForVersion() {
     return std::cout ? 0 : 1;
 }
 
+/// Tells the words that there are.
+int actForHelp() {
+    std::cout << USAGE << "\n\ngikvand-feed(8) says what they do, and what SETTINGS may have.\n";
+    return std::cout.flush() ? 0 : 1;
+}
+
 int act(const std::string &path, bool checks) {
+    edge::Starter starter;
     const feed::Settings settings = feed::readSettings(path);
     if (checks) {
         std::cout << "the settings are right\n";
@@ -42,7 +50,9 @@ int act(const std::string &path, bool checks) {
     if (settings.page)
         page.reset(new edge::Page(
             settings.page, [&] { return figures.text(); }, [&] { return figures.figures(); }));
-    feed::Feed(settings, figures, signals.get()).run();
+    feed::Feed it(settings, figures, signals.get());
+    starter.tell();
+    it.run();
     edge::say("", "stopped");
     return 0;
 }
@@ -52,6 +62,7 @@ int act(const std::string &path, bool checks) {
 int main(int count, char **given) {
     const std::vector<std::string> all(given + 1, given + count);
     if (all == std::vector<std::string>{"--version"}) return actForVersion();
+    if (all == std::vector<std::string>{"--help"}) return actForHelp();
     const bool checks = all.size() == 2 && all[0] == "--check";
     if ((all.size() != 1 && !checks) || all.back().empty() || all.back()[0] == '-') {
         std::cerr << USAGE << "\n";

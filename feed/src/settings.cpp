@@ -153,7 +153,7 @@ Settings readSettings(const std::string &path) {
     const Lines from(path);
     Settings it;
     it.venue = {0, from.text("VenueJournal"), fileOf(from, "VenueEvents", X_OK), symbolsOf(from)};
-    it.members = static_cast<int>(from.number("Members", 1, 8, 8));
+    it.members = static_cast<int>(from.number("Members", 0, 8, 8));
     it.name = nameOf(from);
     it.access = accessOf(from);
     it.bounds = boundsOf(from);

@@ -6,7 +6,8 @@ import time
 
 from fence_tests import figures
 from feeds import COUNT, Feed, Made, Trouble, book, configured, expect_same, expect_streams, free_port, has, levels_of, named, nats
-from feeds import servers, wait_for
+from feeds import servers, wait_for, wait_soon
+from edges import in_folders
 from venues import Late, in_some_try
 
 WAITS = 4  # Seconds for which a stream has to stand still, where that is looked at.
@@ -110,6 +111,11 @@ def test_two_journals() -> None:
 
 def test_messages_under_way() -> None:
     """What a server held back of a feed, until one of another journal had gone on behind the common beginning, comes to no stream."""
+    in_folders(lambda _: publish_late(), "messages_under_way")
+
+
+def publish_late() -> None:
+    """A feed has events under way at a server that stands still. Where it is slow itself it looks for other servers first."""
     with named() as name:
         one, it, port = Made("one"), servers(), free_port(1)
         one.add(3, 10)
@@ -123,13 +129,17 @@ def test_messages_under_way() -> None:
         expect_streams(name, one.lines)
         other = Made("other", *one.lines)
         other.add(1, 20)
-        it.stand(slow)
+        first.stand_idle()  # Behind some seconds without an answer it reads no more: all has to come before.
         one.add(50, 30)
+        wait_for("events at hand", first.has_unread)
+        it.stand(slow)
+        first.go_on()
         looks = []
         def are_sent() -> bool:
-            looks.append(int(figures(port)["gikvand_feed_events_read"]) == len(one.lines))
+            told = figures(port)
+            looks.append(told["gikvand_feed_publishes"] == "1" and int(told["gikvand_feed_events_read"]) == len(one.lines))
             return sum(looks) > 3
-        wait_for("events under way", are_sent)
+        wait_soon("events under way", are_sent)
         first.stand()
         Feed(other.settings(name, Servers=it.urls(slow).rpartition(" ")[0])).hears("publishes behind event ")
         wait_for("the other's events", lambda: has("machines", name, "events", len(other.lines), but=slow))
@@ -245,6 +255,7 @@ def test_wait_for_derived() -> None:
         made.add(2, 10)
         fed = made.feed(name)
         expect_streams(name, made.lines)
+        wait_for("the mark", lambda: mark(name).startswith(f"mark {len(made.lines)} "))  # (else who waits would tell that)
         fed.stop()
         fed = made.feed(name, TakeOver=1000 * WAITS)
         before, more = len(made.lines), Made("more", *made.lines)

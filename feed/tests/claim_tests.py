@@ -6,7 +6,9 @@ from typing import Any
 
 from chain_tests import mark
 from fence_tests import A_READ, MOST, figures
-from feeds import Feed, Made, Trouble, expect_same, expect_streams, free_port, has, named, servers, wait_for
+from feeds import Feed, Made, Trouble, expect_same, expect_streams, free_port, has, named, nats, servers, wait_for, wait_soon
+from edges import in_folders
+from venues import Late
 
 MANY = MOST + A_READ + 500  # Messages of a member: a feed that holds no more of them has read no event behind these.
 MORE, NONE = 1 << 20, -1    # Bytes of a stream: a bound that no test reaches, and none.
@@ -50,7 +52,13 @@ class Marks:
         self.texts()
 
     def texts(self) -> list[str]:
-        """The texts of those that have come by now."""
+        """The texts of those that have come by now. A server that stood still may have ended the connection."""
+        try:
+            return self.read()
+        except nats.Unheard as why:
+            raise Late(f"the marks aren't heard: {why}") from None
+
+    def read(self) -> list[str]:
         self.connection.send(b"PING\r\n")
         found = []
         while (line := self.connection.line()) != b"PONG":
@@ -76,13 +84,18 @@ def told_to_one(name: str) -> Made:
 def test_more_than_is_held() -> None:
     """The stream of a member that lacks more than a feed holds is filled: of one that was added late, and where it was deleted. What is
     told meanwhile is nothing of the midst of the journal."""
+    in_folders(lambda _: fill_one(), "more_than_is_held")
+
+
+def fill_one() -> None:
+    """The stream of the second member is missing, and then deleted: each time the feed says that it has made it."""
     with named() as name:
         made = told_to_one(name)
         marks = Marks(name)
         for _ in range(2):
             fed = made.feed(name)
-            fed.hears(f"the stream venue_{name}_member_C2 is made")
             expect_streams(name, made.lines)
+            fed.need_said(f"the stream venue_{name}_member_C2 is made")
             made.add(1, 30)
             expect_streams(name, made.lines)
             fed.stop()
@@ -148,6 +161,11 @@ def test_waiting_with_other_limits() -> None:
 
 def test_new_limits_are_claims() -> None:
     """Limits come with a claim, by a word of its own: no subject comes back that the stream took before."""
+    in_folders(lambda _: claim_by_limits(), "new_limits")
+
+
+def claim_by_limits() -> None:
+    """A feed sets new limits, and says so."""
     with named() as name:
         made = Made("journal")
         made.add(3, 10)
@@ -156,13 +174,12 @@ def test_new_limits_are_claims() -> None:
         fed.stop()
         before = config_of(name)
         fed = made.feed(name, MaxBytes=MORE)
-        fed.hears(f"the stream venue_{name}_events gets the limits of the settings")
-        after = config_of(name)
-        expect_same("limit", [after["max_bytes"]], [MORE])
-        if after["subjects"] == before["subjects"]:
+        wait_for("the limit", lambda: config_of(name)["max_bytes"] == MORE)
+        if config_of(name)["subjects"] == before["subjects"]:
             raise Trouble(f"the stream takes {before['subjects']} again")
         made.add(1, 20)
         expect_streams(name, made.lines)
+        fed.need_said(f"the stream venue_{name}_events gets the limits of the settings")
 
 
 def test_two_of_other_limits() -> None:
@@ -173,13 +190,15 @@ def test_two_of_other_limits() -> None:
         first = made.feed(name, HttpAcceptPort=port)
         first.hears("publishes behind event ")
         expect_streams(name, made.lines)
-        second = Feed(made.settings(name, MaxBytes=MORE))
-        second.hears(f"the stream venue_{name}_events gets the limits of the settings")
+        wait_for("the mark", lambda: mark(name).startswith(f"mark {len(made.lines)} "))  # (else the first one would tell that)
+        Feed(made.settings(name, MaxBytes=MORE))
+        wait_for("the limit", lambda: config_of(name)["max_bytes"] == MORE)
         first.hears(f"the stream venue_{name}_events {CLAIMED}")
         wait_for("a feed that waits", lambda: figures(port)["gikvand_feed_publishes"] == "0")
         expect_same("claim lost", [figures(port)["gikvand_feed_claims_lost_total"]], ["1"])
         time.sleep(A_TURN)
-        if turns := [it for it in first.lines if "publishes behind event " in it][1:]:
+        behind = first.lines[next(at for at, it in enumerate(first.lines) if CLAIMED in it):]
+        if turns := [it for it in behind if "publishes behind event " in it]:
             raise Trouble(f"it said {turns}")
         expect_same("limit", [config_of(name)["max_bytes"]], [MORE])
         made.add(1, 20)
@@ -188,6 +207,11 @@ def test_two_of_other_limits() -> None:
 
 def test_lost_claim() -> None:
     """A feed whose claim another one took, while events came and while none did, says so, and waits as a second feed does."""
+    in_folders(lambda _: lose_claim(), "lost_claim")
+
+
+def lose_claim() -> None:
+    """The claim of a feed is taken twice. Where servers don't answer then, it counts a refusal before it hears of that."""
     with named() as name:
         made, port = Made("journal"), free_port(1)
         made.add(3, 10)
@@ -203,7 +227,9 @@ def test_lost_claim() -> None:
             fed.go_on()
             fed.hears(f"the stream venue_{name}_events {CLAIMED}")
             told, faults = figures(port), faults_of(fed)
-            expect_same("figure", [told[f"gikvand_feed_{it}_total"] for it in ("claims_lost", "refusals")], [str(count), str(faults)])
+            expect_same("claim lost", [told["gikvand_feed_claims_lost_total"]], [str(count)])
+            if told["gikvand_feed_refusals_total"] != str(faults):
+                raise Late(f"{told['gikvand_feed_refusals_total']} refusals are counted, and it said {fed.lines}")
             made.add(1, 30)
             fed.hears("publishes behind event ")
             expect_streams(name, made.lines)
@@ -211,6 +237,11 @@ def test_lost_claim() -> None:
 
 def test_limits_that_another_set() -> None:
     """A feed that waits, and was to set limits, takes nothing from one that has set them meanwhile."""
+    in_folders(lambda _: set_limits_twice(), "limits_that_another_set")
+
+
+def set_limits_twice() -> None:
+    """One feed sets limits while another one waits. One that doesn't hear that it has set them waits for events."""
     with named() as name:
         made = Made("journal")
         made.add(3, 10)
@@ -221,7 +252,8 @@ def test_limits_that_another_set() -> None:
         second = Feed(copy.settings(name, MaxBytes=MORE))
         second.hears("the journal ends before the stream ")
         first = made.feed(name, MaxBytes=MORE)
-        first.hears("publishes behind event ")
+        wait_for("the limit", lambda: config_of(name)["max_bytes"] == MORE)
+        wait_soon("a feed that publishes", lambda: any("publishes behind event " in it for it in first.lines))
         expect_streams(name, made.lines)
         wait_for("the mark", lambda: mark(name).startswith(f"mark {len(made.lines)} "))
         copy.write(made.lines[-8:])

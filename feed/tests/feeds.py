@@ -26,7 +26,7 @@ from gikvand import nats
 from gikvand.fix import value
 from gikvand.words import sure
 from networks import Host
-from venues import EVENTS, HOST, PATIENCE, TIME, Client, Trouble, free_port, message, order, running, started
+from venues import EVENTS, HOST, PATIENCE, TIME, Client, Late, Trouble, free_port, message, order, running, started
 from venues import Venue, kill_all  # (for those that import this module)
 
 FEED = os.path.abspath(os.environ.get("GIKVAND_FEED", os.path.join(ROOT, "feed/out/gikvand-feed")))
@@ -37,10 +37,11 @@ CONNECTIONS = 24         # That a reader's account may have.
 PARTS = ("events", "trades", *(f"member_C{k}" for k in range(1, MEMBERS + 1)), "book")  # Streams of a feed.
 COUNT = 3                # Servers.
 ESTABLISHED = "01"       # A connection, in /proc/net/tcp.
+POLL = "7"               # The call of the system in which a thread waits for whatever comes.
 NO_STREAM = 10059        # What the servers say of a stream that isn't there.
 PATIENT = 3 * PATIENCE   # Seconds for servers that come back: they take half a minute on a machine with other work.
 IS_LONG = "FEED_LONG" in os.environ
-NAMES = [f"day{it}" for it in range(60)]  # Of the feeds of all tests, one behind the other.
+NAMES = [f"day{it}" for it in range(80)]  # Of the feeds of all tests, one behind the other, some of which are tried again.
 
 
 def held(port: int) -> socket.socket:
@@ -188,6 +189,11 @@ class Servers:
         wait_for("a server that leads", look)
         return found[0]
 
+    def has_none(self, name: str, part: str) -> bool:
+        """Whether the servers say that there is no such stream."""
+        told = json.loads(self.asked(name, f"$JS.API.STREAM.INFO.venue_{name}_{part}") or b"{}")
+        return bool(told.get("error", {}).get("err_code") == NO_STREAM)
+
     def info(self, name: str, part: str) -> Any:
         """What the servers say of a stream, once they do."""
         found: list[Any] = []
@@ -279,8 +285,25 @@ class Feed(Edge):
         """Lets it stand still, in all its threads: from now on it reads and publishes nothing."""
         freeze(self.process.pid)
 
+    def stand_idle(self) -> None:
+        """The same where it waits for whatever comes, and not for the answer to a question, which would come too late then."""
+        def is_idle() -> bool:
+            self.stand()
+            with open(f"/proc/{self.process.pid}/syscall", encoding="ascii") as file:
+                if file.read().split()[0] == POLL:
+                    return True
+            self.go_on()
+            return False
+        wait_for("a feed that waits for whatever comes", is_idle)
+
     def go_on(self) -> None:
         self.process.send_signal(signal.SIGCONT)
+
+    def need_said(self, text: str) -> None:
+        """Fails where it hasn't said by now what it has done before. Where the servers answered behind its patience it doesn't hear that
+        they did what it asked for, and says nothing."""
+        if not any(text in line for line in self.lines):
+            raise Late(f"no line of the feed has {text!r}; it said {self.lines[-12:]}")
 
     def has_unread(self) -> bool:
         """Whether events are at hand that it hasn't read."""
@@ -482,6 +505,14 @@ def wait_for(what: str, holds: Callable[[], object], seconds: float = PATIENT) -
         time.sleep(0.1)
 
 
+def wait_soon(what: str, holds: Callable[[], object]) -> None:
+    """Waits until something holds that holds soon, unless a slow machine lets something else come first: then that was too late."""
+    try:
+        wait_for(what, holds, PATIENCE)
+    except Trouble as why:
+        raise Late(str(why)) from None
+
+
 def expect_same(what: str, came: Sequence[object], wanted: Sequence[object]) -> None:
     """Fails where a list isn't the wanted one, by the first place."""
     for number, (one, other) in enumerate(itertools.zip_longest(came, wanted), 1):
@@ -514,8 +545,8 @@ def levels_of(lines: Iterable[str], symbol: str, depth: int = 10) -> str:
     return f"{symbol} buys{told('1', True)} sells{told('2', False)}"
 
 
-def expect_streams(name: str, lines: list[str]) -> None:
-    """Fails unless all streams have what these events tell, each once and in order."""
+def expect_streams(name: str, lines: list[str], members: int = MEMBERS) -> None:
+    """Fails unless all streams have what these events tell, each once and in order, where so many members have a drop copy."""
     wait_for(f"{len(lines)} events", lambda: has("machines", name, "events", len(lines)))
     came = texts("machines", name, "events", len(lines))
     expect_same("event", [it.text for it in came], lines)
@@ -523,7 +554,7 @@ def expect_streams(name: str, lines: list[str]) -> None:
     trades = trades_of(lines)
     wait_for(f"{len(trades)} trades", lambda: not trades or has("market", name, "trades", len(trades), "trades.*"))
     expect_same("trade", [it.text for it in texts("market", name, "trades", len(trades), "trades.*")], trades)
-    for k in range(1, MEMBERS + 1):
+    for k in range(1, members + 1):
         told = [it for it in lines if it.startswith("output ") and it.split(" ", 3)[2] == f"C{k}"]
         wait_for(f"{len(told)} reports", lambda: not told or has(f"C{k}", name, f"member_C{k}", len(told), f"member.C{k}"))
         expect_same(f"report to C{k}", [it.text for it in texts(f"C{k}", name, f"member_C{k}", len(told), f"member.C{k}")], told)

@@ -3,11 +3,11 @@ import contextlib
 import json
 import os
 import time
-import urllib.request
 from collections.abc import Callable
 
 from feeds import CONNECTIONS, COUNT, JOURNAL, MARKET, Traders, Trouble, configured, expect_same, expect_streams, feed, free_port, has
-from feeds import lines_of, most_memory, named, nats, servers, texts, venue_and_traders, wait_for
+from feeds import lines_of, most_memory, named, nats, servers, texts, venue_and_traders, wait_for, wait_soon
+from edges import in_folders, page_at
 from venues import PATIENCE, Late, in_some_try
 
 
@@ -17,6 +17,7 @@ PATIENT_FOR = 4   # Seconds that the second feed of a test waits,
 VERY_PATIENT_FOR = 20  # and where the first one may stand still by itself, as while the servers elect.
 ROUNDS = 4        # Of trade beside a second feed that waits.
 MOST_MEMORY = 40  # MB, whatever is held.
+MOST_BYTES = 20000  # Of a stream with a limit.
 
 
 def asked(connection: nats.Connection, subject: str, body: bytes = b"") -> bytes:
@@ -27,6 +28,11 @@ def asked(connection: nats.Connection, subject: str, body: bytes = b"") -> bytes
 
 def test_second_feed() -> None:
     """A second feed waits while the first one publishes, and goes on behind its end: each event once, in order."""
+    in_folders(lambda _: go_on_behind(), "second_feed")
+
+
+def go_on_behind() -> None:
+    """A second feed waits beside a first one, which may stand still by itself for longer than that: then it takes over by right."""
     with named() as name:
         _, traders = venue_and_traders()
         first = feed(name)
@@ -42,7 +48,7 @@ def test_second_feed() -> None:
             waits()
         expect_streams(name, lines_of())
         if any("publishes behind event" in line for line in second.lines):
-            raise Trouble(f"the second feed published beside the first: {second.lines}")
+            raise Late(f"the second feed published beside the first: {second.lines}")
         first.kill()
         traders.pairs(20)
         second.hears("publishes behind event ")
@@ -51,13 +57,23 @@ def test_second_feed() -> None:
 
 def test_first_comes_back() -> None:
     """A feed that stood still while another one took over is refused by number, and waits."""
+    in_folders(lambda _: come_back(), "first_comes_back")
+
+
+def come_back() -> None:
+    """A first feed stands still in front of events that it would publish, and goes on behind a second one. Where its connection was lost
+    meanwhile it looks where the streams end before it publishes."""
     with named() as name:
-        _, traders = venue_and_traders()
-        first = feed(name)
-        traders.pairs(20)
+        (_, traders), port = venue_and_traders(), free_port(1)
+        first = feed(name, HttpAcceptPort=port)
+        def publishes() -> bool:
+            """Whether it does by now. One that had no answer waits until there is something to publish."""
+            traders.pairs(20)
+            return figures(port)["gikvand_feed_publishes"] == "1"
+        wait_for("a feed that publishes", publishes)
         expect_streams(name, lines_of())
         second = feed(name, TakeOver=1000 * PATIENT_FOR)
-        first.stand()
+        first.stand_idle()
         begun = time.monotonic()
         traders.pairs(20)
         second.hears("publishes behind event ")
@@ -65,12 +81,15 @@ def test_first_comes_back() -> None:
             raise Trouble(f"the second feed took over behind {waited:.1f} s")
         expect_streams(name, lines_of())
         wait_for("events that it publishes once more", first.has_unread)  # (else it would look first where the stream ends)
+        said = len(first.lines)
         first.go_on()
-        first.hears("refuses ")
+        first.hears("was claimed by another feed")
         for _ in range(4):
             traders.pairs(20)
             time.sleep(0.3)
         expect_streams(name, lines_of())
+        if not any(" refuses " in it for it in first.lines[said:]):
+            raise Late(f"the first feed looked before it published: {first.lines[said:]}")
 
 
 def test_another_journal() -> None:
@@ -97,6 +116,11 @@ def test_another_journal() -> None:
 
 def test_lost_streams() -> None:
     """A stream that was deleted is filled anew, while the feed runs and by a start."""
+    in_folders(lambda _: lose_streams(), "lost_streams")
+
+
+def lose_streams() -> None:
+    """Streams are deleted, and the feed says which one it has made."""
     with named() as name:
         _, traders = venue_and_traders()
         fed = feed(name)
@@ -109,8 +133,8 @@ def test_lost_streams() -> None:
         fed.stop()
         servers().delete(name, "member_C1")
         fed = feed(name)
-        fed.hears(f"the stream venue_{name}_member_C1 is made")
         expect_streams(name, lines_of())
+        fed.need_said(f"the stream venue_{name}_member_C1 is made")
 
 
 def test_lost_stream_of_who_is_quiet() -> None:
@@ -130,6 +154,11 @@ def test_lost_stream_of_who_is_quiet() -> None:
 
 def test_lost_books() -> None:
     """Books that were deleted are told anew by a start, though nothing trades."""
+    in_folders(lambda _: lose_books(), "lost_books")
+
+
+def lose_books() -> None:
+    """Books are deleted, and the feed says that it has made their stream."""
     with named() as name:
         _, traders = venue_and_traders()
         fed = feed(name)
@@ -138,25 +167,31 @@ def test_lost_books() -> None:
         fed.stop()
         servers().delete(name, "book")
         fed = feed(name)
-        fed.hears(f"the stream venue_{name}_book is made")
         expect_streams(name, lines_of())
+        fed.need_said(f"the stream venue_{name}_book is made")
 
 
 def test_limits() -> None:
     """A limit of the settings takes the oldest messages; the numbers go on, and a reader from the front is told."""
+    in_folders(lambda _: limit(), "limits")
+
+
+def limit() -> None:
+    """A feed sets a limit though nothing trades, and says so."""
     with named() as name:
         _, traders = venue_and_traders()
         fed = feed(name)
         traders.pairs(100)
         expect_streams(name, lines_of())
         fed.stop()
-        fed = feed(name, MaxBytes=20000)
-        fed.hears(f"the stream venue_{name}_events gets the limits of the settings")
+        fed = feed(name, MaxBytes=MOST_BYTES)
+        wait_for("the limit", lambda: servers().info(name, "events")["config"]["max_bytes"] == MOST_BYTES)
         traders.pairs(20)
         count = len(lines_of())
         wait_for("the newest event", lambda: has("machines", name, "events", count))
         late = texts("machines", name, "events", 6, first=count - 5)
         expect_same("event", [it.text for it in late], lines_of()[count - 6:])
+        fed.need_said(f"the stream venue_{name}_events gets the limits of the settings")
         def read_one(connection: nats.Connection) -> None:
             front = nats.Stream(connection, f"venue_{name}_events", f"venue.{name}.events.*")
             while not front.come():
@@ -315,12 +350,16 @@ def is_let(user: str, does: Callable[[nats.Connection], object], name: str) -> b
 
 def figures(port: int) -> dict[str, str]:
     """The figures of a feed's page."""
-    with urllib.request.urlopen(f"http://127.0.0.1:{port}/metrics", timeout=30) as page:
-        return dict(line.rsplit(" ", 1) for line in page.read().decode().splitlines())
+    return dict(line.rsplit(" ", 1) for line in page_at(port, "metrics").splitlines())
 
 
 def test_bounded() -> None:
     """While no server answers, a feed holds so many events and no more, in bounded memory; then it goes on."""
+    in_folders(lambda _: hold_what_it_may(), "bounded")
+
+
+def hold_what_it_may() -> None:
+    """A feed reads events beside servers that stand still. Where it is slow itself it looks for other servers before it holds enough."""
     with named() as name:
         _, traders = venue_and_traders()
         port = free_port(1)
@@ -338,7 +377,7 @@ def test_bounded() -> None:
             told = figures(port)
             held.append(int(told["gikvand_feed_events_read"]) - int(told["gikvand_feed_events_published"]))
             return held[-1] >= MOST and held[-1:] == held[-2:-1]
-        wait_for("a feed that holds what it may", is_full)
+        wait_soon("a feed that holds what it may", is_full)
         if (behind := max(held)) > MOST + A_READ:
             raise Trouble(f"it holds {behind} events")
         servers()
@@ -388,8 +427,7 @@ def shown_by_its_page(name: str, traders: Traders) -> None:
         expect_figures(port, len(lines))
         if not float(figures(port)['gikvand_feed_lag_seconds{quantile="0.99"}']) > 0:
             raise Trouble(f"no lag: {figures(port)}")
-        with urllib.request.urlopen(f"http://127.0.0.1:{port}/", timeout=30) as page:
-            line = page.read().decode()
+        line = page_at(port)
         if not line.startswith(f"publishes, connected, {len(lines)} of {len(lines)} events published, 0 s behind"):
             raise Late(line)
     finally:

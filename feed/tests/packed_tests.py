@@ -5,6 +5,7 @@ import shutil
 import subprocess
 import sys
 
+import traces
 from feeds import FEED, NAMES, ROOT, Trouble, expect_same, settings_of, sure
 
 FILES = ["etc/gikvand-feed", "usr/bin/gikvand-feed", "usr/lib/systemd/system/gikvand-feed@.service",
@@ -53,4 +54,9 @@ def test_package() -> None:
         raise Trouble("the program of the package doesn't run")
 
 
-TESTS = [test_settings_of_the_page, test_package]
+def test_traces() -> None:
+    """The program tells neither the folder nor the day that it was built in: built in another one it has the same bytes."""
+    traces.need_none(FEED)
+
+
+TESTS = [test_settings_of_the_page, test_package, test_traces]

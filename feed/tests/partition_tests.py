@@ -48,7 +48,7 @@ class Reader(threading.Thread):
         try:
             stream = nats.Stream(connection, f"venue_{self.name_of_feed}_events", f"venue.{self.name_of_feed}.events.*", len(self.texts) + 1)
             while not self.is_over:
-                came = stream.come()
+                came = next_of(stream)
                 time.sleep(0 if came else A_LOOK)
                 for it in came:
                     if it.number != len(self.texts) + 1:
@@ -63,6 +63,14 @@ class Reader(threading.Thread):
         self.is_over = True
         self.join()
         expect_same(f"event by server {self.number + 1}", self.texts, lines)
+
+
+def next_of(stream: nats.Stream) -> list[nats.Message]:
+    """The next messages of a stream. One that a server lacks for long, and that others have, may come later."""
+    try:
+        return stream.come()
+    except nats.Trouble as why:
+        raise nats.Unheard(f"{why}") from None
 
 
 class Parted:

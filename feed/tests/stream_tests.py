@@ -42,6 +42,20 @@ def test_streams() -> None:
         it.stop()
 
 
+def test_no_drop_copies() -> None:
+    """Without drop copies all else is there, and no stream of a member; once members have drop copies these are filled."""
+    with named() as name:
+        _, traders = venue_and_traders()
+        traders.pairs(50)
+        it = feed(name, Members=0)
+        expect_streams(name, lines_of(), 0)
+        wait_for("no stream of C1", lambda: servers().has_none(name, "member_C1"))
+        it.stop()
+        it = feed(name)
+        expect_streams(name, lines_of())
+        it.stop()
+
+
 def test_numbers_fence() -> None:
     """A publish that names another number than the stream's end is refused, at its front, its end and behind it."""
     with named() as name:
@@ -286,8 +300,8 @@ def test_full_disk() -> None:
         come_back(name, small)
 
 
-TESTS = [test_streams, test_numbers_fence, test_kills, test_all_servers_stop, test_one_server, test_no_server, test_server_stands_still,
-         test_full_store, test_no_store]
+TESTS = [test_streams, test_no_drop_copies, test_numbers_fence, test_kills, test_all_servers_stop, test_one_server, test_no_server,
+         test_server_stands_still, test_full_store, test_no_store]
 if disks.can_be_had():
     TESTS.append(test_full_disk)
 else:

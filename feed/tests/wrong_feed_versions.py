@@ -2,9 +2,20 @@
 wrong_feeds.py tries them."""
 from wrong_versions import Wrong
 
+SCRIPT = "servers"  # The script that starts servers, in the place of a source.
+
+
+def path(wrong: Wrong) -> str:
+    """The file that a wrong version changes, from the root."""
+    return "feed/servers" if wrong.source == SCRIPT else f"feed/src/{wrong.file()}"
+
+
 WRONG = {
     "messages without a number": Wrong("server", "    need(natsMsgHeader_Set(made, EXPECTED, std::to_string(number - 1).c_str()));\n",
                                        "    (void)number;\n", "test_hashes"),
+    "drop copies that nobody can do without": Wrong("settings", 'from.number("Members", 0, 8, 8)', 'from.number("Members", 1, 8, 8)', "no_drop_copies"),
+    "a start that systemd isn't told": Wrong("main", "    starter.tell();\n", "", "told_to_systemd"),
+    "help that is an error": Wrong("main", '    if (all == std::vector<std::string>{"--help"}) return actForHelp();\n', "", "test_help"),
     "refusals that nobody hears": Wrong("stream", "    else if (fault_.empty()) {\n", "    else if (false) {\n",
                                         "first_comes_back"),
     "a start that doesn't wait": Wrong("stream", " && now - stillSince_ >= still;", " && (still.count() || now < stillSince_);",
@@ -32,7 +43,7 @@ WRONG = {
                                                   "beside_a_loss"),
     "a stream that nobody leads": Wrong("server", "    if (leader.empty()) throw ", "    if (false) throw ", "test_one_server"),
     "a feed at whatever server is first": Wrong("feed", "if (hasMoved_ || ", "if (true || ", "test_leader"),
-    "readers without bounds": Wrong("servers", "rights_of(names, it))}\", limits, ", "rights_of(names, it))}\", ", "bounds_of_readers"),
+    "readers without bounds": Wrong(SCRIPT, "rights_of(names, it))}\", limits, ", "rights_of(names, it))}\", ", "bounds_of_readers"),
     "streams of others": Wrong("server", "    needVersion(is);\n", "", "other_version"),
     "limits that stay as they were": Wrong("feed", "(wantsLimits_ && streams_.areEventsThere()) || ", "", "test_limits"),
     "limits of a feed that waits": Wrong(
@@ -60,6 +71,7 @@ WRONG = {
     "a trade for each report": Wrong("trades", "    if (place_.empty()) {\n", "    if (place_.empty() && false) {\n", "test_streams"),
     "levels that stay": Wrong("books", '    if (level.quantity == "0") side.erase(price);\n    else side', "    side", "test_streams"),
     "figures of nothing": Wrong("feed", "    figures_.published = events.before();\n", "", "test_page"),
+    "a fault with its folder": Wrong("settings", '"can\'t read the settings: " + path', '__FILE__ + path', "test_traces"),
     "passwords that all may read": Wrong("settings", "    if (it.st_mode & 077) throw", "    if (false) throw", "wrong_settings"),
     "settings that are passed over": Wrong("settings", " || !NAMES.count(name)) throw", ") throw", "wrong_settings"),
 }

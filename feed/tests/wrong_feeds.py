@@ -18,6 +18,7 @@ sys.path[:0] = [os.path.join(FEED, "../edge/tests"), os.path.join(FEED, "../dev"
 
 import networks
 import wrong_edges
+import wrong_feed_versions
 from wrong_feed_versions import WRONG
 from wrong_versions import Wrong
 
@@ -42,17 +43,18 @@ def make_wrong(path: str, wrong: Wrong) -> None:
 def build(wrong: Wrong, place: str) -> str:
     """Compiles the wrong version in this folder: its program. Of wrong servers it is the right one, and a variable names them."""
     os.environ.pop(SERVERS, None)
-    if wrong.source == "servers":
+    if wrong.source == wrong_feed_versions.SCRIPT:
         os.environ[SERVERS] = shutil.copy(os.path.join(FEED, "servers"), place)
         make_wrong(os.environ[SERVERS], wrong)
         return os.path.join(FEED, "out/gikvand-feed")
     sources, program = os.path.join(place, "src"), os.path.join(place, "wrong-feed")
     shutil.rmtree(sources, ignore_errors=True)
     shutil.copytree(os.path.join(FEED, "src"), sources)
-    make_wrong(source := os.path.join(sources, f"{wrong.source}.cpp"), wrong)
-    built = [os.path.join(FEED, "out/CMakeFiles/gikvand-feed.dir/src/main.cpp.o"), os.path.join(FEED, "out/libfeed.a")]
-    made = subprocess.run(["c++", "-std=c++14", "-O0", "-w", f"-I{SHARED}", "-o", program, source, *built, "-lnats", "-lpthread"],
-                          capture_output=True, text=True)
+    make_wrong(source := os.path.join(sources, wrong.file()), wrong)
+    built = [os.path.join(FEED, "out/CMakeFiles/gikvand-feed.dir/src/main.cpp.o")] if wrong.source != "main" else []
+    built.append(os.path.join(FEED, "out/libfeed.a"))
+    made = subprocess.run(["c++", "-std=c++14", "-O0", "-w", '-DGIKVAND_VERSION="0"', f"-I{SHARED}", "-o", program, source, *built, "-lnats",
+                           "-lpthread"], capture_output=True, text=True)
     if made.returncode:
         raise ValueError(f"it can't be compiled: {made.stderr[-600:]}")
     return program
