@@ -15,14 +15,14 @@ declare -gA _gikvand_options=(
     [watch]="--prometheus --quick --symbols"
     [board]="--feed --password-file --ca --port --symbols"
     [trade]="--port --member --journal --symbols --fix"
-    [demo]=""
+    [demo]="--keep"
     [day]=""
     [store-contract]="--machine --folder --cut --join --kill --start --stay --rounds --port"
     [provenance]="--sources"
 )
-_gikvand_valued=" --after --ca --cut --edge --feed --folder --join --journal --kill --machine --member --password-file \
---port --rounds --sources --start --stay --symbols "
-_gikvand_filed=" --ca --edge --folder --journal --password-file --sources "
+_gikvand_valued=" --after --ca --cut --edge --feed --folder --join --journal --keep --kill --machine --member \
+--password-file --port --rounds --sources --start --stay --symbols "
+_gikvand_filed=" --ca --edge --folder --journal --keep --password-file --sources "
 # end of that
 
 # Puts the words up to the cursor into `words`, as the program gets them: bash has cut them at each =.
@@ -191,7 +191,7 @@ _gikvand_edge() {
     if [[ ${given[0]-} == --check ]]; then
         given=("${given[@]:1}")
     else
-        options+=" --check --version"
+        options+=" --check --help --version"
         verbs="stop resume cancel halt status numbers"
     fi
     if [[ ${#given[@]} -gt 0 && " $verbs " == *" ${given[0]} "* ]]; then

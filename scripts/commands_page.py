@@ -15,6 +15,8 @@ HERE = '.\\" (here stand the commands)\n'  # The line of the page in whose place
 
 def filled(page: str) -> str:
     """The page, with the commands in the place of that line, where it has the line."""
+    if HERE not in page:
+        return page
     return page.replace(HERE, "".join(f"{line}\n" for name in tools.COMMANDS for line in command(name)))
 
 

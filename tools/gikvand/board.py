@@ -3,7 +3,7 @@
     gikvand board JOURNAL                   prints the page's address; goes on until SIGTERM or SIGINT (Ctrl-C)
     gikvand board JOURNAL --port 8700       at a port that you choose, as for a tunnel of ssh
     gikvand board --feed tls://machines@10.0.0.1:4222/NAME --password-file FILE --ca ca.pem
-                                            shows what a feed publishes, on any machine (docs/FEED.md)
+                                            shows what a feed publishes, on any machine (FEED.md)
 
 For each symbol the page has the depth of the book and the last trades; for each member its orders, fills and what
 rests; and commands a second, and the journal's growth. It follows the journal by venue-events, whose book is the proved

@@ -1,13 +1,14 @@
 """Shows a venue of two members: starts it on free ports, lets C1 sell and C2 buy, at a price and by a market order, stops
 it, and reads its journal.
 
-    gikvand demo
+    gikvand demo [--keep FOLDER]
 
 What each member hears is said in words by `gikvand trade`, which speaks FIX to the venue. The journal lies in a folder of
-its own, which is removed at the end. Both programs have to be built, or installed; it takes others by the environment's
-VENUED and VENUE_REPLAY.
+its own, which is removed at the end; with --keep that is FOLDER, which is made, and stays: a journal to look at by all
+other commands. Both programs have to be built, or installed; it takes others by the environment's VENUED and VENUE_REPLAY.
 """
 import argparse
+import contextlib
 import os
 import queue
 import signal
@@ -15,6 +16,7 @@ import subprocess
 import sys
 import tempfile
 import threading
+from collections.abc import Iterator
 
 from gikvand import symbols
 from gikvand.ports import free_port
@@ -143,20 +145,34 @@ def demo() -> None:
         show(f"All reports to {name}, as FIX", REPLAY, "demo.journal", name, "ABC")
 
 
-def add_words(_parser: argparse.ArgumentParser) -> None:
-    """It has no words of its own."""
+def add_words(parser: argparse.ArgumentParser) -> None:
+    parser.add_argument("--keep", metavar="FOLDER", help="make this folder, and leave the journal there")
 
 
-def run(_given: argparse.Namespace) -> int:
+@contextlib.contextmanager
+def folder_of(keep: str | None) -> Iterator[str]:
+    """The folder of the journal: one that stays, or one that is removed."""
+    if keep is None:
+        with tempfile.TemporaryDirectory(prefix="demo-") as folder:
+            yield folder
+        return
+    os.mkdir(keep)
+    yield keep
+    print(f"\nThe journal stays: gikvand trades {os.path.join(keep, JOURNAL)}")
+
+
+def run(given: argparse.Namespace) -> int:
     signal.signal(signal.SIGTERM, lambda *_: sys.exit("gikvand demo: ended by a signal"))
     need(VENUED, REPLAY)
-    with tempfile.TemporaryDirectory(prefix="demo-") as folder:
+    with folder_of(given.keep) as folder:
+        before = os.getcwd()
         os.chdir(folder)
         try:
             demo()
+            os.remove(f"{JOURNAL}.stop")
         finally:
             for process in running:
                 process.kill()
                 process.wait()
-            os.chdir(ROOT)
+            os.chdir(before)
     return 0

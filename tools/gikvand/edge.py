@@ -24,9 +24,12 @@ PROBE, EXPIRY = "p", "e"                    # The kinds of its own requests: a q
 CANCELLED, EXPIRED = "4", "C"               # The ExecTypes (150) of such a cancel, as the venue tells it and as the edge does.
 DAY_ENDED = {"150": EXPIRED, "39": EXPIRED, "58": f"{BY_EDGE}the day has ended"}
 OPERATOR, OF_OPERATOR = "o", f"{BY_EDGE}the operator has cancelled this order"  # A cancel that an operator asks for, and its text.
-REFUSED, NO_NAMES = "x", ("m", "d")         # The kind of a name that the edge refused; what is no name in the row of a turn.
+REFUSED, NO_NAMES = "x", ("m", "d", "v")    # The kind of a name that the edge refused; what is no name in the row of a turn.
+PLACES = 10 ** 16                           # Of names that each venue has in the record of a member with several.
+OF_A_VENUE = ("17", "37")                   # Tags of what has the letter of its venue in front, where a member has several.
 FIRST, NOBODYS = 1, "nobody knows which desk sent this request"  # The first desk, and the text that it is told then.
 OF_DESK = re.compile(r"edge-desk-(\d+):(.*)", re.DOTALL)  # A name of one of the further desks of a member.
+OF_NUMBER = re.compile(r"(?:edge-lost-)?([A-Z]?)\d+")  # What the edge calls a request whose name nobody knows: the letter of its venue.
 PART = re.compile(rb"(.)(\d+) (\d+) ", re.DOTALL)  # Of a turn's row: what it is, its number, and how many bytes follow.
 TRIES = 20                                  # Looks at a record that is written to meanwhile.
 A_HEAD = 32                                 # Bytes of what a log of SQLite begins with: two of its words are others in each log.
@@ -79,13 +82,16 @@ class Step:
 
 class Member(NamedTuple):
     """A member behind the edge: the CompIDs of its desks and that of the edge, and the names by their numbers, with the kinds of
-    these; behind `first` a number without one has a name by the edge. A name of a further desk begins with that desk."""
+    these; behind `first` a number without one has a name by the edge. A name of a further desk begins with that desk. The letter
+    is that of the venue, where the record has had another one before."""
     comp_ids: dict[int, str]
     edge_id: str
     names: dict[int, str]
     kinds: dict[int, str]
     first: int
     has_desks: bool  # Or it never had more than one.
+    letter: str
+    called: frozenset[str]  # The names, as the desks gave them.
 
     def parted(self, number: str) -> tuple[int, str]:
         """The desk that sent what has this number, and how that desk called it; desk 0 where nobody knows, or the settings don't have
@@ -95,10 +101,15 @@ class Member(NamedTuple):
         desk, name = (int(found[1]), found[2]) if (found := OF_DESK.fullmatch(kept)) else (FIRST, kept)
         if kept and desk in self.comp_ids:
             return desk, name
-        return 0, f"{'edge-lost-' if self.first and at >= self.first else ''}{number}"
+        return 0, f"{'edge-lost-' if self.first and at >= self.first else ''}{self.letter}{number}"
 
     def name_of(self, number: str) -> str:
         return self.parted(number)[1]
+
+    def has_order(self, name: str) -> bool:
+        """Whether a desk has called a request at this venue so, or the edge has by its number."""
+        by_number = OF_NUMBER.fullmatch(name)
+        return name in self.called or by_number is not None and by_number[1] == self.letter
 
     def desk_of(self, report: dict[str, str]) -> int:
         """The desk that is told a report: the first one where nobody knows whose it is."""
@@ -143,11 +154,33 @@ def parts_of(row: bytes) -> Iterator[tuple[int, str, str]]:
             yield int(head[2]), kind, row[head.end():at].decode("utf-8", "surrogateescape")
 
 
-def record_of(path: str) -> tuple[dict[int, str], dict[int, str], int, bool]:
-    """Names and kinds by their numbers, the first number, and whether it is of several desks, out of a member's record. A member that
-    never came has none."""
+class Kept(NamedTuple):
+    """Of a member's record, of one venue: names and kinds by their numbers, the first number, whether it is of several desks, and the
+    letter that stands in names of the edge's own."""
+    names: dict[int, str]
+    kinds: dict[int, str]
+    first: int
+    has_desks: bool
+    letter: str
+
+
+def has_table(record: sqlite3.Connection, name: str) -> bool:
+    return bool(record.execute("SELECT 1 FROM sqlite_master WHERE name = ?", (name,)).fetchone())
+
+
+def place_of(record: sqlite3.Connection, letter: str) -> tuple[int, int]:
+    """The place of a venue in a member's record, and its first number; of one that has no letters, or not this one, the first."""
+    first = record.execute("SELECT first FROM session").fetchone()[0]
+    if letter and has_table(record, "venues"):
+        if found := record.execute("SELECT place, first FROM venues WHERE venue = ? AND place > 0", (letter,)).fetchone():
+            return found[0], found[1]
+    return 0, first
+
+
+def record_of(path: str, letter: str = "") -> Kept:
+    """What a member's record has of the venue of this letter. A member that never came has nothing."""
     if not os.path.exists(path):
-        return {}, {}, 0, False
+        return Kept({}, {}, 0, False, "")
     try:
         with tempfile.TemporaryDirectory(prefix="edge-") as folder:
             with contextlib.closing(sqlite3.connect(copied(path, folder))) as record:
@@ -155,12 +188,13 @@ def record_of(path: str) -> tuple[dict[int, str], dict[int, str], int, bool]:
                 if record.execute("SELECT 1 FROM sqlite_master WHERE name = 'turns'").fetchone():
                     for turn, in record.execute("SELECT did FROM turns ORDER BY turn"):
                         rows += parts_of(turn)
-                first = record.execute("SELECT first FROM session").fetchone()[0]
-                has_desks = bool(record.execute("SELECT 1 FROM sqlite_master WHERE name = 'desks'").fetchone())
+                place, first = place_of(record, letter)
+                has_desks = has_table(record, "desks") and bool(record.execute("SELECT 1 FROM desks").fetchone())
     except (sqlite3.Error, TypeError, ValueError) as why:
         raise Trouble(f"{path} isn't a member's record of gikvand-edge: {why}") from why
-    names = [it for it in rows if it[1] != REFUSED]
-    return {number: name for number, _, name in names}, {number: kind for number, kind, _ in names}, first, has_desks
+    names = [(at % PLACES, kind, name) for at, kind, name in rows if at // PLACES == place and kind != REFUSED]
+    return Kept({number: name for number, _, name in names}, {number: kind for number, kind, _ in names}, first, has_desks,
+                letter if place else "")
 
 
 class Session(NamedTuple):
@@ -179,8 +213,16 @@ class Session(NamedTuple):
         folder = self.need("EdgePath")
         return os.path.join(folder, member) if folder == self.common.get("EDGEPATH") else folder  # One of [DEFAULT] is for all.
 
-    def steps(self) -> dict[str, Step]:
-        return dict(map(self.step_of, self.need("Symbols").split()))
+    def venue_of(self, journal: str) -> str:
+        """The letter of the venue whose journal this is; nothing where the settings have one venue without a letter."""
+        letters = self.settings.get("VENUES", "").split()
+        found = [it for it in letters if os.path.realpath(self.need(f"VenueJournal{it}")) == os.path.realpath(journal)]
+        if letters and not found:
+            raise Trouble(f"{self.path} has the venues {' '.join(letters)}, and {journal} is the journal of none of them")
+        return found[0] if found else ""
+
+    def steps(self, letter: str = "") -> dict[str, Step]:
+        return dict(map(self.step_of, self.need(f"Symbols{letter}").split()))
 
     def step_of(self, word: str) -> tuple[str, Step]:
         symbol, _, step = word.partition(":")
@@ -199,13 +241,16 @@ def sessions_of(path: str) -> list[Session]:
 
 
 class Edge:
-    """The settings of an edge, of one file or of several, and what they say of its members."""
+    """The settings of an edge, of one file or of several, and what they say of its members at the venue of a journal."""
 
-    def __init__(self, *paths: str) -> None:
-        self.path, self.sessions, self.comp_ids = ", ".join(paths), dict[str, Session](), dict[str, dict[int, str]]()
+    def __init__(self, *paths: str, journal: str = "") -> None:
+        self.path, self.journal, self.sessions = ", ".join(paths), journal, dict[str, Session]()
+        self.comp_ids = dict[str, dict[int, str]]()
         for it in itertools.chain.from_iterable(map(sessions_of, paths)):
             self.add(it)
-        self.steps = next(iter(self.sessions.values())).steps()
+        first = next(iter(self.sessions.values()))
+        self.letter = first.venue_of(journal)
+        self.steps = first.steps(self.letter)
         self.known: dict[int, Member] = {}
 
     def add(self, it: Session) -> None:
@@ -218,7 +263,8 @@ class Edge:
             return
         if other := self.sessions.get(name):
             raise Trouble(f"{other.path} and {it.path} both have a session of {name}: give one of these files")
-        if it.need("Symbols").split() != first.need("Symbols").split():
+        symbols = f"Symbols{first.venue_of(self.journal)}"
+        if it.need(symbols).split() != first.need(symbols).split():
             raise Trouble(f"{it.path} has other Symbols than {first.path}: are both of one venue?")
         self.sessions[name] = it
 
@@ -231,9 +277,10 @@ class Edge:
             name = f"C{number}"
             if not (session := self.sessions.get(name)):
                 raise Trouble(f"{self.path} has no session of {name}")
-            names, kinds, first, has_desks = record_of(os.path.join(session.folder(name), f"{name}.db"))
-            comp_ids = self.comp_ids[name]
-            self.known[number] = Member(comp_ids, session.need("SenderCompID"), names, kinds, first, has_desks or len(comp_ids) > 1)
+            kept, comp_ids = record_of(os.path.join(session.folder(name), f"{name}.db"), self.letter), self.comp_ids[name]
+            called = frozenset(OF_DESK.sub(r"\2", it) for it in kept.names.values())
+            self.known[number] = Member(comp_ids, session.need("SenderCompID"), kept.names, kept.kinds, kept.first,
+                                        kept.has_desks or len(comp_ids) > 1, kept.letter, called)
         return self.known[number]
 
     def price_of(self, symbol: str, steps: str) -> str:
@@ -248,8 +295,12 @@ class Edge:
             report = {tag: text for tag, text in {**report, "11": report["41"], **DAY_ENDED}.items() if tag != "41"}
         else:
             report = self.with_text(number, report)
-        return {tag: member.name_of(text) if tag in NAMES else self.price_of(report.get("55", ""), text) if tag in PRICES else text
-                for tag, text in report.items()}
+        return {tag: member.name_of(text) if tag in NAMES else self.price_of(report.get("55", ""), text) if tag in PRICES else
+                self.of_venue(text) if tag in OF_A_VENUE else text for tag, text in report.items()}
+
+    def of_venue(self, text: str) -> str:
+        """An ExecID or OrderID with the letter of the venue in front, where the member has several."""
+        return f"{self.letter}{text}" if text.isdecimal() else text
 
     def with_text(self, number: int, report: dict[str, str]) -> dict[str, str]:
         """A report with the text of the edge, where that has one for it: an operator has had an order cancelled, or nobody knows which
@@ -276,10 +327,10 @@ class Edge:
 
     def is_for_member(self, number: int, report: dict[str, str]) -> bool:
         """Whether the edge tells its member of this report: not of what it asked for by itself, nor of rejected messages. Where a
-        cancel at the end of a day is refused its order has an end of its own."""
+        cancel at the end of a day is refused its order has an end of its own. An order for another venue came by a wrong port."""
         if report["35"] == "9":
             return self.member(number).kinds.get(int(report["11"])) != PROBE and not self.is_of_an_end(number, report)
-        return report["35"] == "8"
+        return report["35"] == "8" and (not self.letter or report["55"] in self.steps)
 
     def reports(self, word: str, lines: Iterable[str]) -> Iterator[str]:
         """The venue's reports to a member as it knows them, as of C1, or to one of its desks, as of C1.2."""
@@ -303,7 +354,21 @@ class Edge:
         if (message.get("49"), message.get("56")) != ids or message.get("150") == "I":
             return False
         is_own = message.get("58", "").startswith(BY_EDGE) and message.get("150") not in (CANCELLED, EXPIRED)
-        return message.get("35") in ("8", "9") and not is_own
+        return message.get("35") in ("8", "9") and not is_own and self.is_of_this_venue(member, message)
+
+    def is_of_this_venue(self, member: Member, message: dict[str, str]) -> bool:
+        """Whether a report in a log is one of this venue, where the member has several: by the letter in front of its ExecID, or by the
+        names of a refused cancel. What stands in a log of before has none."""
+        if not self.letter:
+            return True
+        exec_id, order_id = message.get("17", ""), message.get("37", "")
+        if exec_id or order_id != "NONE":
+            return (exec_id or order_id).startswith(self.letter) or not member.letter and (exec_id or order_id).isdecimal()
+        return member.has_order(message.get("41", ""))
+
+    def with_letter(self, message: dict[str, str]) -> dict[str, str]:
+        """A message of a log of before, when the member had one venue, as it would be told now."""
+        return {tag: self.of_venue(text) if tag in OF_A_VENUE else text for tag, text in message.items()}
 
 
 def parted_word(word: str) -> tuple[int, int]:
@@ -312,11 +377,11 @@ def parted_word(word: str) -> tuple[int, int]:
     return int(member[1:]), int(desk or 0)
 
 
-def needed(paths: list[str], words: Iterable[str]) -> Edge | None:
+def needed(paths: list[str], words: Iterable[str], journal: str) -> Edge | None:
     """The edge whose settings these are, where there is one: without it no word names a desk."""
     if not paths and (desks := [it for it in words if "." in it]):
         raise Trouble(f"{desks[0]} is a desk of a member behind gikvand-edge: give --edge, with the edge's settings")
-    return of(paths)
+    return of(paths, journal)
 
 
 def text_of(fields: dict[str, str]) -> str:
@@ -334,9 +399,9 @@ def printed_as_compared(line: str) -> str:
     return as_compared({**fields_of(line), "60": value(line, "52") or ""})
 
 
-def of(paths: list[str]) -> Edge | None:
-    """The edge whose settings these are, where there is one."""
-    return Edge(*itertools.chain.from_iterable(map(files_of, paths))) if paths else None
+def of(paths: list[str], journal: str) -> Edge | None:
+    """The edge whose settings these are, where there is one, as it stands in front of the venue of a journal."""
+    return Edge(*itertools.chain.from_iterable(map(files_of, paths)), journal=journal) if paths else None
 
 
 def ids_of(it: Edge) -> dict[str, str]:

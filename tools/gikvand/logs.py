@@ -11,6 +11,7 @@ from gikvand.fix import REPORTS, fields_of, printed, sealed, value
 # A message, whose fields end with the byte 01, or with what the log has in its place. What is broken off is none.
 MESSAGE = re.compile(rb"8=FIX\.4\.4(\x01|\||\^A)9=\d+\1(?:(?!8=FIX).)*?\1(?:10=\d{3})(?!\d)", re.DOTALL)
 LONGEST = 4096        # Of a message in a log, in bytes.
+PLACE = re.compile(r"[A-Z]?(\d+)")  # An ExecID, which has the letter of its venue in front where a member has several.
 PIECE = 1 << 20       # So many bytes are read at once.
 PRINTED = re.compile(rb"35=[389]\|52=[^\n]*\|")  # A line as `gikvand reports` prints it.
 HEADER = re.compile(r"8=[^|]*\|9=[^|]*\|(35=[^|]*\|)49=VENUE\|56=C\d\|34=[^|]*\|(52=[^|]*\|)(.*)10=\d{3}\|")
@@ -61,13 +62,13 @@ def of_the_edge(file: BinaryIO, member: str, edge: Edge, first: bytes) -> Iterat
     for message in messages(file, first):
         told = fields_of(printed(message))
         if edge.is_to(member, told):
-            yield as_compared(told), is_whole(message), "Y" in (told.get("43"), told.get("97"))
+            yield as_compared(edge.with_letter(told)), is_whole(message), "Y" in (told.get("43"), told.get("97"))
 
 
 def place_of(report: str) -> int | None:
-    """The place of an execution report among all that the venue has told, its ExecID. The other reports have none."""
-    place = fields_of(report).get("17") if report.startswith("35=8|") else None
-    return int(place) if place and place.isdecimal() else None
+    """The place of an execution report among all that the venue has told, by its ExecID. The other reports have none."""
+    found = PLACE.fullmatch(fields_of(report).get("17", "")) if report.startswith("35=8|") else None
+    return int(found[1]) if found else None
 
 
 class Told:
@@ -139,7 +140,7 @@ class Compared:
         """A report of this place, at which what was told stands now."""
         self.last = place
         if self.told.next is None:
-            yield f"the journal ends before it, so it is an older copy: {report}"
+            yield f"the journal's reports end before it: {report}"
         elif place_of(self.told.next) != place:
             yield f"the venue didn't tell it: {report}"
         elif (told := self.told.take()) == report:

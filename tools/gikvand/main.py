@@ -11,7 +11,7 @@ from gikvand.files import Output
 from gikvand.words import Trouble, text_of
 
 COMMANDS = {"verify": "says whether a journal, or a copy of one, is whole and unchanged",
-            "reports": "shows what a member was told, as to one who was away",
+            "reports": "shows what a journal has for a member, as for one who was away",
             "trades": "lists the trades, each once with both of its sides",
             "follow": "ships a journal to a copy, also while it is in use",
             "audit": "keeps a log of when each block came, and of all bytes before it",

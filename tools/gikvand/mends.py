@@ -5,6 +5,7 @@ from gikvand.journals import BrokenOff, Damaged
 
 NOT_A_JOURNAL = "it doesn't begin with the header of a journal of version 1, 2 or 3 (fault 43): is the name right?"
 CHANGED = "No session of the venue publishes that: something else wrote to the file. Keep it, and look for a whole copy"
+LOGGED = "The journal or this log was changed, or the journal is an older copy. Keep both, and look for a whole copy"
 FALSE = "The entries before it lead to another one. Were other symbols given? Else something else wrote to the file"
 
 

@@ -1,4 +1,4 @@
-"""What a member was told of its orders, as the journal tells it: all of it, or what came behind an ExecID that the member has.
+"""What the journal has for a member: each report of its orders, or what came behind an ExecID that the member has.
 
     gikvand reports JOURNAL C1                     each report as FIX, with a bar behind each field
     gikvand reports JOURNAL C1 --after 17 --csv    what came behind the report with ExecID 17, as a table
@@ -6,10 +6,11 @@
                                                    with the names and decimals of a member behind gikvand-edge; of one of its
                                                    desks as C1.2
 
-Who was away, or whose connection was ended, gets nothing later: this is how it learns what it missed. Reports that refuse a
-cancel or a replace, or reject a message, have no ExecID, so of these all are shown that stand behind the last report up to
-that ExecID: the member may know the first of them. An ExecID behind the journal's end is refused, since then the journal is an
-older copy. It reads by venue-events, and the journal may be in use.
+Who was away, or whose connection was ended, gets nothing later: this is how it learns what it missed. Which of the reports
+reached the member, the journal doesn't say, and its own log does: gikvand verify compares both. Reports that refuse a cancel or
+a replace, or reject a message, have no ExecID, so of these all are shown that stand behind the last report up to that ExecID:
+the member may know the first of them. An ExecID behind the journal's end is refused, since then the journal is an older copy.
+It reads by venue-events, and the journal may be in use.
 """
 import argparse
 import re
@@ -81,7 +82,7 @@ def row_of(report: str) -> Row:
 
 
 def run(given: argparse.Namespace) -> int:
-    traded, behind_edge = symbols.needed(given.journal, given.symbols), edge.needed(given.edge, [given.member])
+    traded, behind_edge = symbols.needed(given.journal, given.symbols), edge.needed(given.edge, [given.member], given.journal)
     told = Events(given.journal, traded)
     lines: Iterable[str] = told.told_to(given.member[:len("C1")])
     if behind_edge:

@@ -79,11 +79,12 @@ def as_known(behind: edge.Edge, row: Row, ids: dict[str, str]) -> Row:
             known = behind.member(int(member[1:]))
             desk, name = known.parted(str(row[f"{side}ClOrdID"]))
             row |= {side: known.comp_ids.get(desk, ids[member]), f"{side}ClOrdID": name}
+            row |= {it: behind.of_venue(str(row[it])) for it in (f"{side}OrderID", f"{side}ExecID")}
     return row
 
 
 def run(given: argparse.Namespace) -> int:
-    traded, behind = symbols.needed(given.journal, given.symbols), edge.of(given.edge)
+    traded, behind = symbols.needed(given.journal, given.symbols), edge.of(given.edge, given.journal)
     events = Events(given.journal, traded)
     rows = (row for row in trades(events) if row["Place"] > given.after)
     first = list(itertools.islice(rows, 1))

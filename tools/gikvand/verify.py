@@ -185,7 +185,8 @@ def look_at_log(given: argparse.Namespace, log: Log, behind: edge.Edge | None, r
     told = behind.logged(log.member, replay) if behind else iter(replay)
     with files.opened(log.path) as file:
         compared = Compared(told)
-        report.each(f"{log.path}: {line}" for line in compared.compare(reports(file, log.member, behind)))
+        if report.each(f"{log.path}: {line}" for line in compared.compare(reports(file, log.member, behind))):
+            print(f"    {mends.LOGGED}")
     print(f"{log.member}: {some(compared.found, 'report')} of {log.path} as the journal tells them, which has "
           f"{compared.missed} more")
     if not compared.logged and compared.missed:
@@ -206,7 +207,7 @@ def run(given: argparse.Namespace) -> int:
         raise Trouble(why)
     with files.opened(given.journal) as file:
         need_files(given)
-        behind = edge.needed(given.edge, [it.member for it in given.logs])
+        behind = edge.needed(given.edge, [it.member for it in given.logs], given.journal)
         journal = look_at_blocks(given.journal, file, report)
     if journal and not journal.damage:
         look_at_snapshots(given, journal, report)

@@ -5,7 +5,7 @@
 venued says fault 41 for a lock, for rights, for a folder, a full disk and a device that fails, and doesn't say for which. Ask
 as the user who runs it, on its machine: rights and limits are those of whoever asks. It looks at the name, at who may read
 and write what, at who has the lock, at the room on the disk, at what a process needs, and reads the file from front to back.
-It changes nothing and takes no lock. Snapshots are compared where the symbols are known.
+It changes nothing and takes no lock. Snapshots are compared where the symbols are known. Of a journal in use it says who has it.
 
 The status is 0 where it finds nothing that stands in the way, 1 where something does, and 2 where it can't look.
 """
@@ -20,11 +20,12 @@ from collections.abc import Iterator
 from typing import NamedTuple
 
 from gikvand import files, locks, mends, symbols
-from gikvand.journals import Damaged, NotAJournal, Reader, empty
+from gikvand.journals import WITH_SNAPSHOTS, Damaged, NotAJournal, Reader, empty
 from gikvand.programs import false_snapshot
 from gikvand.words import some
 
-A_SNAPSHOT = 200_000   # The most that a start may have to add, in bytes.
+A_SNAPSHOT = 200_000   # The most that a start may have to add, in bytes,
+DUE = 1000             # and behind how many entries without a snapshot it has to.
 FEWEST_FILES = 8       # The three standard streams, three that hold their numbers, the file and its folder.
 
 
@@ -73,6 +74,16 @@ def is_loop(path: str) -> bool:
     return False
 
 
+def of_who_asks(path: str) -> Iterator[Cause]:
+    """What keeps whoever asks from seeing whether there is a file of this name: the edge of a member must not get more rights for that."""
+    try:
+        os.stat(path)
+    except OSError as why:
+        if why.errno == errno.EACCES:
+            yield device(f"{user()} may not look for {path}", "ask as the user who runs the venue; an edge's user, whose venue-events can't "
+                         "read the journal, gets no right here: systemctl restart venued, or \"Set-up\" in EDGE.md")
+
+
 def of_the_name(path: str) -> Iterator[Cause]:
     """What is wrong with a name, or with one under which there is no file."""
     if why := files.fault_of_name(path):
@@ -87,8 +98,11 @@ def of_the_name(path: str) -> Iterator[Cause]:
 
 
 def of_a_new_one(path: str) -> Iterator[Cause]:
-    """What keeps venued from making a missing journal."""
+    """What keeps venued from making a missing journal, or would make it begin with an empty book where there was one."""
     folder, new = folder_of(path), f"{path}.new"
+    if os.path.exists(kept := symbols.place_of(path)):
+        yield Cause("the service's line", f"{path} is missing, and {kept} says that there was one",
+                    f"put it back, or a copy; for a new and empty one remove {kept}")
     if not os.path.isdir(folder):
         yield device(f"there is no folder {folder}", "make it, or mend the name")
         return
@@ -119,16 +133,26 @@ def of_the_lock(path: str) -> Iterator[Cause]:
     mend = f"let it serve, or stop it first: touch {shlex.quote(path)}.stop stops a venue that listens"
     if locks.command_of(pid):
         mend = f"let it go on, or end it first: kill {pid}"
-    yield device(f"{locks.name_of(pid)} has it, and one process alone may", mend)
+    yield Cause("in use", f"{locks.name_of(pid)} has it, and each other start is fault 41", mend)
 
 
 def of_the_disk(path: str) -> Iterator[Cause]:
+    """What keeps venued from writing there, or from making a missing journal."""
+    if os.statvfs(folder_of(path)).f_flag & os.ST_RDONLY:
+        yield device(f"the file system of {path} takes no writes", "mount it to read and write")
+    elif not os.path.exists(path):
+        yield from of_the_room(path, "an empty journal has", len(empty()))
+
+
+def of_the_room(path: str, what: str, needed: int) -> Iterator[Cause]:
+    """What a disk that is nearly full does to a start which needs so many bytes for this, and to the venue behind a start."""
     it = os.statvfs(folder_of(path))
     room = it.f_bavail * it.f_frsize
-    if it.f_flag & os.ST_RDONLY:
-        yield device(f"the file system of {path} takes no writes", "mount it to read and write")
+    free = f"{some(room, 'byte')} are free on the disk of {path}"
+    if room < needed:
+        yield device(f"{free}, and {what} {needed}", "make room")
     elif room < A_SNAPSHOT:
-        yield device(f"{some(room, 'byte')} are free on the disk of {path}, and a snapshot may need {A_SNAPSHOT}", "make room")
+        yield Cause("journal failed", f"{free}: it opens, and an order that finds no room ends the venue", "make room")
 
 
 def of_the_machine() -> Iterator[Cause]:
@@ -140,13 +164,14 @@ def of_the_machine() -> Iterator[Cause]:
 
 
 def of_the_bytes(path: str, given: list[str] | None) -> Iterator[Cause]:
-    """What is wrong with the file's contents, or with reading them."""
-    snapshots, blocks = 0, 0
+    """What is wrong with the file's contents, or with reading them, and whether there is room for what follows them."""
+    snapshots, blocks, newest = 0, 0, 0
     with files.opened(path) as file:
         try:
             reader = Reader(file)
             for blocks, block in enumerate(reader, 1):
                 snapshots += block.snapshot is not None
+                newest = newest if block.snapshot is None else block.before
         except NotAJournal:
             yield Cause("fault 43", f"{path} is no journal", mends.NOT_A_JOURNAL)
             return
@@ -158,6 +183,8 @@ def of_the_bytes(path: str, given: list[str] | None) -> Iterator[Cause]:
             yield device(f"the device doesn't read {path}, near byte {file.tell()}: {why.strerror}",
                          "look at the system's log; copy the file as far as it goes, and look for a whole copy")
             return
+    is_due = reader.version >= WITH_SNAPSHOTS and reader.count - newest >= DUE
+    yield from of_the_room(path, "the snapshot that is due may need", A_SNAPSHOT * is_due)
     if snapshots and (found := symbols.known(path, given)):
         if (false := false_snapshot(path, found)) is not None:
             yield Cause(f"false snapshot at {false}", "it isn't that of the entries before it", mends.FALSE)
@@ -168,7 +195,7 @@ def of_the_bytes(path: str, given: list[str] | None) -> Iterator[Cause]:
 def causes(given: argparse.Namespace) -> Iterator[Cause]:
     """All that stands in the way of a start with this journal."""
     path = given.journal
-    wrong = list(of_the_name(path))
+    wrong = [*of_who_asks(path)] or [*of_the_name(path)]
     yield from wrong
     if wrong:
         return
