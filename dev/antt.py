@@ -1,6 +1,5 @@
 """What the definitions and lemmas of .antt files are called, what they say, and what names them. Not a script: the
 scripts import it."""
-import glob
 import os
 import re
 import typing
@@ -37,9 +36,12 @@ def read(path: str) -> list[str]:
 
 
 def sources(ending: str) -> list[str]:
-    """The files of all crates with this ending."""
-    found = glob.glob(f"{ROOT}/crates/*/**/*{ending}", recursive=True)
-    return sorted(it for it in found if "/out/" not in it)
+    """The files of all crates with this ending, but for those that are made."""
+    found = []
+    for folder, folders, names in os.walk(f"{ROOT}/crates", followlinks=True):
+        folders[:] = [it for it in folders if it != "out"]
+        found += [os.path.join(folder, it) for it in names if it.endswith(ending)]
+    return sorted(found)
 
 
 def wide() -> typing.Iterator[tuple[int, str, int]]:
@@ -195,6 +197,11 @@ def depths(text: str) -> typing.Iterator[tuple[str, int]]:
     for it in text:
         depth += (it in "({⟨[") - (it in ")}⟩]")
         yield it, depth
+
+
+def depth(text: str) -> int:
+    """The number of brackets that are open behind a text."""
+    return sum(map(text.count, "({⟨[")) - sum(map(text.count, ")}⟩]"))
 
 
 def parted(text: str, sign: str) -> list[str]:

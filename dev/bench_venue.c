@@ -92,10 +92,12 @@ static void send_orders(Member *it, long count) {
     send_all(it, out, length);
 }
 
-// The number behind this text in a message, or -1.
+// The number behind this text in a message, and behind the letter of a venue that may stand there, or -1.
 static long number_of(const char *from, size_t length, const char *text) {
     const char *found = memmem(from, length, text, strlen(text));
-    return found ? atol(found + strlen(text)) : -1;
+    if (!found) return -1;
+    found += strlen(text);
+    return atol(found + (*found >= 'A' && *found <= 'Z'));
 }
 
 // Takes the acknowledgement of the next order in.

@@ -44,7 +44,7 @@ def code_of(lines: list[str]) -> tuple[list[str], set[str]]:
         is_ghost = line.strip().startswith("ghost ")
         if contracts.CLAUSE.match(line) or is_ghost or USE.match(line):
             text = line
-            while list(antt.depths(text))[-1:] and list(antt.depths(text))[-1][1] > 0:
+            while antt.depth(text) > 0:
                 kept.append("")
                 at += 1
                 text += lines[at]

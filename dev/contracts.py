@@ -9,10 +9,12 @@ TEST = re.compile(r"\s*#\[cfg\(test\)\]")
 TRAIT = re.compile(r"(?:pub(?:\([a-z ]+\))? )?trait (\w+)")
 IMPL = re.compile(r"impl\b(?:<[^{]*?>)? (?:(?:\w+::)*(?P<trait>\w+)(?:<[^{]*>)? for )?(?:\w+::)*(?P<type>\w+)")
 BLOCK = re.compile(r"impl\b|(?:pub(?:\([a-z ]+\))? )?trait ")
-FUNCTION = re.compile(r"\s*(?P<before>(?:pub(?:\([a-z ]+\))? )?)(?:const )?(?:unsafe )?fn (?P<name>\w+)")
+FUNCTION = re.compile(r"\s*(?P<before>(?:pub(?:\([a-z ]+\))? )?)(?:const )?(?:unsafe )?(?:extern \"C\" )?fn (?P<name>\w+)")
 CLAUSE = re.compile(r"\s*(requires|ensures)\*? (?:(\w+) )?\{")
 ITEM = re.compile(r"(?:pub(?:\([a-z ]+\))? )?(?P<kind>struct|enum|trait|type|const|static) (?P<name>\w+)")
 GHOST = re.compile(r"    ghost (\w+)(?::| =)")
+# Which promises of docs/PROMISES.md a clause carries, or a function by all of its clauses: what dev/clauses.py reads.
+MARK = re.compile(r"(?:^| ) *// promises? (?P<numbers>\d+(?:, \d+)*)$")
 
 
 class Clause(typing.NamedTuple):
@@ -59,8 +61,9 @@ class Item(typing.NamedTuple):
 
 
 def lines_of(path: str) -> list[str]:
+    """The lines of a file, without what says which promises they carry."""
     with open(path, encoding="utf-8") as file:
-        return [it.rstrip() for it in file]
+        return [MARK.sub("", it.rstrip()) for it in file]
 
 
 def blocks(lines: list[str]) -> list[Block]:
@@ -90,7 +93,7 @@ def functions(lines: list[str]) -> list[Function]:
             found.append(Function(it["name"], block, it["before"], at + 1, head_of(lines, at), []))
         elif (it := CLAUSE.match(line)) and found:
             first, text, depth = at + 1, line.strip(), antt.indentation(line)
-            while list(antt.depths(text))[-1][1]:
+            while antt.depth(text):
                 at += 1
                 text += "\n" + lines[at].strip()
             found[-1].clauses.append(Clause(it[2] or it[1], first, text.removesuffix(";"), depth))
@@ -135,7 +138,7 @@ def end_of(lines: list[str], at: int) -> int:
     text = ""
     for last in range(at, len(lines)):
         text += lines[last]
-        if (lines[last].endswith((";", "}"))) and list(antt.depths(text))[-1][1] == 0:
+        if lines[last].endswith((";", "}")) and antt.depth(text) == 0:
             return last + 1
     return len(lines)
 

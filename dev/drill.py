@@ -7,12 +7,13 @@ import threading
 import time
 from collections.abc import Callable, Iterator
 
+from drill_edge import EdgeUnit
 from drill_machines import SHARED, Machine
 from drill_store import FOLDER, Store, contents
-from drill_venue import PORT, SYMBOL, Unit, alone, first_ready, step_without, watched
+from drill_venue import CUT_OFF, PORT, SYMBOL, Unit, alone, first_ready, step_without, watched
 from gikvand.words import sure
 from traders import Member, Rounds, request
-from venues import Client, Trouble, await_that, message
+from venues import Client, Late, Trouble, await_that, message
 
 MEMBERS = [1, 2, 3, 4]
 ENOUGH = 100     # Answers that each member gets before something happens.
@@ -95,6 +96,7 @@ class Drill:
     def __init__(self, kind: type[Store], left_out: str | None) -> None:
         self.kind, self.left_out, self.times = kind, left_out, dict[str, list[float]]()
         self.units: list[Unit] = []
+        self.edges: list[EdgeUnit] = []
 
     def make(self) -> None:
         """Boots the machines, and makes the store and the first journal by hand."""
@@ -140,7 +142,7 @@ class Drill:
 
     def play(self, case: Callable[["Drill", Machine], str], number: int) -> str:
         """Plays a case, and says what was seen."""
-        self.units = []
+        self.units, self.edges = [], []
         before = sum(map(len, self.rounds.kept.values()))
         said = case(self, self.machines[number % len(self.machines)])
         kept = sum(map(len, self.rounds.kept.values())) - before
@@ -157,7 +159,8 @@ class Drill:
 
     def say_lines(self) -> None:
         """What the units have said lately, for who looks why a case failed."""
-        for it in self.units:
+        units: list[Unit | EdgeUnit] = [*self.units, *self.edges]
+        for it in units:
             for at, line in it.lines[-LINES:]:
                 print(f"    {it.machine.name}, {time.monotonic() - at:.1f} s ago: {line}", flush=True)
         for line in self.store.said():
@@ -180,7 +183,9 @@ class Drill:
                 await_that(f"{other.machine.name} is refused", lambda: other.refused(at) > 1 or other.ready(since))
         serving = [it.machine.name for it in self.units if it.ready(since)]
         if serving != [unit.machine.name]:
-            raise Trouble(f"expected one machine to go on came {' and '.join(serving)}")
+            # (one that stood still behind its start is ended by its watch, and another one goes on)
+            kind = Late if unit.when(CUT_OFF, sure(unit.ready(since))) else Trouble
+            raise kind(f"expected one machine to go on came {' and '.join(serving)}")
         return unit
 
     def traded_on(self, unit: Unit, out: Machine | None = None) -> list[Member]:

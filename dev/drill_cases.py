@@ -11,7 +11,7 @@ import drill_edge
 from drill import ENOUGH, Drill, await_answers, cease, heard, looked_at, send_one_more, stop_listening, trading
 from drill_machines import HOME, Machine, ran
 from drill_store import contents
-from drill_venue import Unit, alone
+from drill_venue import Unit, alone, first_ready
 from gikvand.programs import ROOT
 from gikvand.words import sure
 from traders import Member
@@ -234,20 +234,25 @@ def edge(drill: Drill, machine: Machine) -> str:
         desks.leave()
         since = time.monotonic()
         machine.die()
-        new = drill.goes_on(standbys, since)
-        desks.start(new.machine, drill.left_out != "numbers")
+        new = first_ready(standbys, since)
+        desks.start(new.machine, drill.left_out != "numbers")  # At once, as units that are bound to the venue's.
+        served = time.monotonic() - since
         desks.log_on()
         back = time.monotonic() - since
+        drill.goes_on(standbys, since)
         desks.miss_nothing(drill.store.journal(new.machine))
         desks.trade()
         desks.miss_nothing(drill.store.journal(new.machine))
         desks.close()
     finally:
+        drill.edges += desks.units.values()
         desks.end()
     later = drill.traded_on(new, machine)
     drill.store.come_back(machine)
     drill.end(new, later)
-    return drill.took("members behind the edge are told all that they missed after", back)
+    return (drill.took("a dead machine with edges: the next venue is ready after", sure(new.ready(since)) - since) + ", "
+            + drill.took("the edges there serve after", served) + ", "
+            + drill.took("members behind the edge are told all that they missed after", back))
 
 
 def holding() -> list[str]:

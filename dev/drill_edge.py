@@ -5,6 +5,7 @@ import os
 import signal
 import sys
 import threading
+import time
 
 from drill_machines import HOME, SHARED, Machine, children, kill
 from drill_store import FOLDER, JOURNAL
@@ -62,11 +63,10 @@ def comp_id(member: int) -> str:
 
 
 class EdgeUnit:
-    """The edge of a member on a machine, from now on, and the lines that it prints."""
+    """The edge of a member on a machine, from now on, and the lines that it prints, each with its moment."""
 
     def __init__(self, machine: Machine, member: int) -> None:
-        self.machine, self.member = machine, member
-        self.lines: list[str] = []
+        self.machine, self.member, self.lines = machine, member, list[tuple[float, str]]()
         words = ["bash", "-c", UNIT, "unit", EDGE, "--member", f"C{member}", SETTINGS]
         self.process = machine.begin(*in_its_run(machine), *words)
         threading.Thread(target=self.read, daemon=True).start()
@@ -74,11 +74,11 @@ class EdgeUnit:
     def read(self) -> None:
         with sure(self.process.stdout) as pipe:
             for line in pipe:
-                self.lines.append(line.rstrip("\n"))
+                self.lines.append((time.monotonic(), line.rstrip("\n")))
 
     def await_line(self, text: str) -> None:
         await_that(f"the edge of C{self.member} on {self.machine.name} says '{text}'",
-                   lambda: any(text in it for it in self.lines))
+                   lambda: any(text in line for _, line in self.lines))
 
     def stop(self) -> None:
         """Stops the edge in order."""
@@ -87,7 +87,7 @@ class EdgeUnit:
                 os.kill(it, signal.SIGTERM)
         await_that(f"the edge of C{self.member} ends", lambda: self.process.poll() is not None)
         if status := self.process.poll():
-            raise Trouble(f"the edge of C{self.member} ended with {status}: {self.lines[-3:]}")
+            raise Trouble(f"the edge of C{self.member} ended with {status}: {[line for _, line in self.lines[-3:]]}")
 
     def end(self) -> None:
         """Kills it: nothing starts again here."""

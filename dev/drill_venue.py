@@ -15,6 +15,7 @@ STEP, SERVE, LET_GO = (os.path.join(STANDBY, it) for it in ("before-start", "ser
 SYMBOL, PORT, GATEWAYS = "ABC", 9001, 6  # The last two are of members behind the edge.
 LOCKED = "status 41"  # Of a start that another venue's lock refuses, by the step or, without it,
 FAULT = "status 1"    # by the venue itself.
+CUT_OFF = "serve: this machine is cut off from the store"  # Of the watch, which ends its venue.
 
 # What contrib/standby/venued@.conf asks of systemd: the step, the venue, and half a second between two starts.
 UNIT = f"""step="$1"

@@ -10,6 +10,7 @@ import time
 from collections.abc import Iterable, Iterator
 from typing import NamedTuple
 
+from results import cores, number
 from venues import ROOT, Trouble
 
 FIGURE = re.compile(r"([a-z][a-z0-9_.]*): ([0-9.]+) (\S+)")
@@ -53,18 +54,6 @@ def quiet(may_be_busy: bool) -> float:
         raise Trouble(f"others take {others:.1f} of {os.cpu_count()} cores: figures would be theirs "
                       "(--busy measures all the same)")
     return others
-
-
-def cores() -> int:
-    """How many cores this program may use, and those that it starts: taskset leaves it some."""
-    return len(os.sched_getaffinity(0))
-
-
-def processor() -> str:
-    """The name of the machine's processor."""
-    with open("/proc/cpuinfo", encoding="utf-8") as file:
-        found = re.search(r"^model name\s*: (.*)$", file.read(), re.M)
-    return found[1] if found else "an unknown processor"
 
 
 def printed_by(*words: object) -> Iterator[Figure]:
@@ -123,19 +112,22 @@ class Spread(NamedTuple):
     def shown(self, digits: int = 4) -> str:
         return f"{number(self.median, digits)} ({number(self.least, digits)} to {number(self.greatest, digits)})"
 
+    def rounded(self) -> dict[str, float]:
+        return {name: rounded(value) for name, value in self._asdict().items()}
+
 
 def spread(values: list[float]) -> Spread:
     return Spread(statistics.median(values), min(values), max(values))
 
 
-def number(value: float, digits: int) -> str:
-    """A number with as many digits that count, and none of its own behind them."""
-    shown = float(f"{value:.{digits}g}")
-    return f"{shown:,.0f}" if shown >= 1000 else f"{shown:g}"
+def rounded(value: float) -> float:
+    """A number of at most six digits that count, as a file keeps it."""
+    shown = float(f"{value:.6g}")
+    return int(shown) if shown == int(shown) else shown
 
 
 def plain(value: float) -> str:
-    """The same without commas and exponents, for programs that read it."""
+    """A number without commas and exponents, for programs that read it."""
     return f"{float(f'{value:.6g}'):.9f}".rstrip("0").rstrip(".")
 
 
@@ -186,17 +178,16 @@ class Figures:
         """That of the best rounds of each."""
         return self.best(name) / max(self.best(twin), NOTHING)
 
-    def table(self) -> str:
-        """All of them as Markdown."""
-        heads = ["figure", "project", "C++", "project : C++", "best : best"]
-        twins, rows = dict(self.pairs()), [f"| {' | '.join(heads)} |", "|---" * len(heads) + "|"]
+    def listed(self) -> list[dict[str, object]]:
+        """The project's figures as data, each with its twin's, as dev/results.py has them."""
+        twins, found = dict(self.pairs()), []
         for name in self.values:
             if PROJECT not in name:
                 continue
-            own, other, ratio, best = spread(self.values[name]).shown(), "", "", ""
+            one: dict[str, object] = {"name": of(name), "unit": self.units[name], "project": spread(self.values[name]).rounded()}
             if name in twins:
-                other = spread(self.values[twins[name]]).shown()
-                ratio = f"{self.ratio(name, twins[name]).shown(3)} of its {self.what(name)}"
-                best = number(self.best_ratio(name, twins[name]), 3)
-            rows.append(f"| `{of(name)}`, {self.units[name]} | {own} | {other} | {ratio} | {best} |")
-        return "\n".join(rows)
+                one["cpp"] = spread(self.values[twins[name]]).rounded()
+                one["ratio"] = dict[str, object](self.ratio(name, twins[name]).rounded(), of=self.what(name))
+                one["best"] = rounded(self.best_ratio(name, twins[name]))
+            found.append(one)
+        return found

@@ -1,11 +1,13 @@
 """What tests of programs and pages share: a program that is run to its end, a text of the repository, how many passed, and what can be
 had here. Not a test."""
+import contextlib
 import functools
 import os
 import shutil
 import subprocess
 import sys
 from collections.abc import Iterable
+from importlib.util import cache_from_source
 from typing import AnyStr
 
 import with_scripts  # (in front of what stands there, and of what an older Python can't read)
@@ -13,6 +15,7 @@ import with_scripts  # (in front of what stands there, and of what an older Pyth
 ROOT = os.path.dirname(os.path.dirname(os.path.abspath(__file__)))
 EDGE = os.path.abspath(os.environ.get("GIKVAND_EDGE", os.path.join(ROOT, "edge/out/gikvand-edge")))
 LONG = 300  # Seconds for a program.
+AT_END = contextlib.ExitStack()  # What is left behind all tests of a run.
 # What Python has compiled goes along, so that no copy compiles it anew; a file of that which is just being written doesn't.
 NOT_COPIED = shutil.ignore_patterns("out", "out-*", "*.pyc.*")
 
@@ -94,6 +97,35 @@ def copy_there(root: str, names: Iterable[str], folder: str) -> None:
             shutil.copytree(path, os.path.join(folder, name), ignore=NOT_COPIED)
         else:
             shutil.copy(path, folder)
+
+
+def copy_program(path: str, source: str = "", folder: str = ".") -> None:
+    """Copies a program or a module of the project, or another one in its place, to its place below a folder, with what Python has compiled
+    of it."""
+    source, path = source or os.path.join(ROOT, path), os.path.join(folder, path)
+    for it, there in ((source, path), (cache_from_source(source), cache_from_source(path))):
+        if it == source or os.path.exists(it):
+            os.makedirs(os.path.dirname(there), exist_ok=True)
+            shutil.copy2(it, there)
+
+
+def link_there(root: str, copied: Iterable[str], folder: str) -> None:
+    """Makes a folder the project by links, but for these files and folders, which are copied: to copy all of it takes longer than most
+    tests. A program that imports what is another one there has to be a copy too: Python looks for modules where the program's link leads.
+    What Python has compiled is linked file by file, so that nothing new gets into the project."""
+    copies = set(copied)
+    for name in os.listdir(root):
+        path, there = os.path.join(root, name), os.path.join(folder, name)
+        below = {it.partition("/")[2] for it in copies if it.partition("/")[0] == name}
+        if "" in below and os.path.isdir(path):
+            shutil.copytree(path, there, ignore=NOT_COPIED)
+        elif "" in below:
+            shutil.copy2(path, there)  # (of the same time, by which Python knows what it has compiled of it)
+        elif below or name == "__pycache__":
+            os.mkdir(there)
+            link_there(path, below, there)
+        else:
+            os.symlink(path, there)
 
 
 def is_edge_built() -> bool:

@@ -10,20 +10,23 @@ import fcntl
 import os
 import pathlib
 import shutil
+import signal
 import sys
 import tempfile
 from collections.abc import Callable, Iterator
 
 import pytest
+from _pytest.assertion import util
 from _pytest.terminal import TerminalReporter
 
 ROOT = os.path.dirname(os.path.dirname(os.path.abspath(__file__)))
 TOOLS = os.path.abspath(os.environ.get("TOOLS", os.path.join(ROOT, "tools")))
-OWN = ("VENUED", "VENUE_REPLAY", "VENUE_EVENTS", "GIKVAND_EDGE", "PLAY", "CHECK", "CI_RUN", "LINT", "MEASURES")
+OWN = ("VENUED", "VENUE_REPLAY", "VENUE_EVENTS", "GIKVAND_EDGE", "PLAY", "CHECK", "CI_RUN", "LINT", "MEASURES", "EDITS", "PAGES", "WARM_PYTEST")
 os.environ.update({it: os.path.abspath(os.environ[it]) for it in OWN if it in os.environ})
 sys.path[:0] = [TOOLS, *(os.path.join(ROOT, it) for it in ("tests", "dev", "scripts"))]
-pytest.register_assert_rewrite("board_page", "checks", "installed", "made_journals", "running_tools")
+pytest.register_assert_rewrite("board_page", "checks", "installed", "made_journals", "packed", "running_tools")
 
+import checks
 import debian
 import gikvand  # (of TOOLS, in front of what puts another path first)
 import made_journals
@@ -33,9 +36,19 @@ from gikvand import journals
 from script_modules import loaded
 
 FROM_DEBIAN = {"mandoc": "mandoc", "lintian": "lintian", "systemd-analyze": "systemd", "systemd-sysusers": "systemd",
-               "dpkg-deb": "dpkg", "strip": "binutils", "mmdebstrap": "mmdebstrap", "ip": "iproute2", "pgrep": "procps"}
+               "dh_builddeb": "debhelper", "mmdebstrap": "mmdebstrap", "nft": "nftables", "ip": "iproute2", "pgrep": "procps"}
 LAST_LINE = pytest.StashKey[str]()
+A_TEST = 1_800  # Seconds for a test, which are there to end one that hangs.
 SHOWN = 2_000  # Characters of what came, where it isn't what was expected.
+
+
+def difference(config: pytest.Config, op: str, left: object, right: object, use_ascii: bool = False) -> list[str] | None:
+    """What came and what was expected, of long ones the beginning, in the place of what pytest would say, and find out first: how two
+    packages of a million bytes differ, where the environment has CI, and how two texts do, which takes hours."""
+    return ["another thing came", f"came     {left!r:.{SHOWN}}", f"expected {right!r:.{SHOWN}}"] if op == "==" else None
+
+
+util.assertrepr_compare = difference
 
 
 @pytest.fixture(autouse=True)
@@ -48,6 +61,25 @@ def folder() -> Iterator[pathlib.Path]:
         finally:
             venues.kill_all()
             os.chdir(ROOT)
+
+
+@pytest.fixture(autouse=True)
+def has_an_end(request: pytest.FixtureRequest) -> Iterator[None]:
+    """A test that waits for what never comes fails there, but for those that may take long."""
+    def ends(number: int, frame: object) -> None:
+        raise venues.Trouble(f"the test hasn't ended within {A_TEST} seconds")
+    before = signal.signal(signal.SIGALRM, ends)
+    signal.alarm(0 if request.node.get_closest_marker("long") else A_TEST)
+    yield
+    signal.alarm(0)
+    signal.signal(signal.SIGALRM, before)
+
+
+@pytest.fixture(scope="session", autouse=True)
+def left_at_end() -> Iterator[None]:
+    """Leaves behind all tests what they share."""
+    with checks.AT_END:
+        yield
 
 
 @pytest.fixture(scope="session")
@@ -154,11 +186,6 @@ def pytest_collection_modifyitems(config: pytest.Config, items: list[pytest.Item
     left = [it for it in items if not any(word in it.name for word in words)]
     items[:] = [it for it in items if it not in left]
     config.hook.pytest_deselected(items=left)
-
-
-def pytest_assertrepr_compare(op: str, left: object, right: object) -> list[str] | None:
-    """What came and what was expected, of long ones the beginning: to find out how they differ may take minutes."""
-    return ["another thing came", f"came     {left!r:.{SHOWN}}", f"expected {right!r:.{SHOWN}}"] if op == "==" else None
 
 
 def pytest_terminal_summary(terminalreporter: TerminalReporter, exitstatus: int, config: pytest.Config) -> None:

@@ -104,6 +104,10 @@ class Profile:
         used = {tag for them in [self.header(), self.trailer(), *self.fields().values()] for tag, _ in them}
         return {tag: found.get(tag, set()) for tag in used}
 
+    def rows(self) -> set[str]:
+        """The tags that have a row in a table of tags."""
+        return {tag for _, head, rows in self.tables for row in rows if head[:2] == ["tag", "name"] for tag in row[0].split(", ")}
+
     def values(self) -> dict[str, set[str]]:
         """The values of each tag that has only some."""
         found = {"35": set(self.types())}
@@ -211,6 +215,7 @@ def compared(profile: Profile, dictionary: Dictionary) -> Iterator[tuple[str, st
         for key in sorted(set(one) & set(other)):
             yield f"{words} {key}", difference(one[key], other[key])
     tags = [tag for tag, _ in dictionary.known]
+    yield "rows of tags that no message has", difference(set(), profile.rows() - set(profile.names()))
     yield "tags defined twice", difference(set(), {tag for tag in tags if tags.count(tag) > 1})
 
 

@@ -107,6 +107,11 @@ def ran(journal: str, data: bytes, judged: Judged) -> str | None:
     """Plays a session to its end: how it differs from the rules, or None."""
     process = subprocess.Popen([VENUED, "-", journal, "1", *SYMBOLS], stdin=subprocess.PIPE, stdout=subprocess.PIPE,
                                stderr=subprocess.PIPE)
+    return ended(process, data, judged)
+
+
+def ended(process: subprocess.Popen, data: bytes | None, judged: Judged) -> str | None:
+    """Waits for the end of a run that gets this: how it differs from the rules, or None."""
     try:
         out, err = process.communicate(data, PATIENCE)
     except subprocess.TimeoutExpired:
@@ -127,8 +132,7 @@ def in_pieces(journal: str, pieces: tuple[bytes, ...], judged: Judged) -> str | 
             if time.monotonic() > end:
                 process.kill()
             time.sleep(0.0002)
-    out, err = process.communicate()
-    return check_end(process, out, err, judged)
+    return ended(process, None, judged)
 
 
 def tried(cases: list[tuple[str, Case]], together: int) -> tuple[int, list[str]]:

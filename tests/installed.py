@@ -388,6 +388,17 @@ def serve_by_edge(it: Machine) -> None:
     assert it.do(f"stat -c '%U %a' {RECORDS}/C1 {RECORDS}/C1/edge/C1.db").splitlines() == ["gikvand-edge-C1 700", "gikvand-edge-C1 600"]
 
 
+def starts_of_an_edge_that_fail(it: Machine) -> None:
+    """`systemctl start` says whether the member's port listens, and fails where the settings are wrong."""
+    it.do(f"systemctl stop {EDGE}; sed -i s/^Member=C1/Member=C9/ {EDGE_SETTINGS}/C1.cfg")
+    assert it.ask(f"systemctl start {EDGE}")[0] == 1
+    assert "gikvand-edge: Member: " in it.do(f"journalctl -o cat -u {EDGE}")
+    it.do(f"systemctl stop {EDGE}; sed -i s/^Member=C9/Member=C1/ {EDGE_SETTINGS}/C1.cfg; systemctl start {EDGE}")
+    it.await_line(EDGE, "gikvand-edge: C1: stopped")
+    it.await_line(EDGE, "gikvand-edge: C1: ready")
+    it.await_that("an edge that serves behind a start that failed", lambda: serves_last(it))
+
+
 def upgrade_edge_and_back(it: Machine, older: list[str], newer: list[str]) -> None:
     """Edge and venue run on through an upgrade of both packages; started anew, the edge goes on with its record, and so it does on
     the way back."""
@@ -454,6 +465,7 @@ def lives_in_a_debian(older: str, newer: str, edges: tuple[str, ...] = ()) -> No
             pairs = [[name, os.path.basename(edge)] for name, edge in zip(names, edges)]
             install_edge(it, pairs[0][1])
             serve_by_edge(it)
+            starts_of_an_edge_that_fail(it)
             upgrade_edge_and_back(it, *pairs)
             remove_edge(it)
         remove(it)

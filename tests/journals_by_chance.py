@@ -41,7 +41,7 @@ from replay_program import FOLDERS, Program, is_built, not_built
 from oracle import snapshot_rules
 from oracle.book_rules import Book
 from oracle.snapshot_rules import BadSnapshot
-from wrong_replays import CONDITIONS, WRONG, Wrong
+from wrong_replays import CONDITIONS, WITHOUT, WRONG, Wrong
 
 SAMPLE = 1_200       # Journals of the full check,
 MOST_TO_TELL = 10_000  # and those among which one has to tell a wrong rule.
@@ -207,14 +207,20 @@ def first_difference(lines: list[str], came: Outcome) -> str:
     return f"{where} {came.status} {came.err}"
 
 
+def can_differ(name: str, met: list[str]) -> bool:
+    """Whether a wrong rule may differ from the rules, which have met this: one that lacks a condition does where that refuses a snapshot."""
+    condition = name.removeprefix(WITHOUT)
+    return condition == name or f"refused for its {condition}" in met
+
+
 def told(seed: str, numbers: range, names: list[str]) -> dict[str, int]:
     """Which of these wrong rules differ on some of these journals, and on which one first."""
     found: dict[str, int] = {}
     for number in numbers:
         it = chosen(seed, number)
-        steps, _ = judged(it)
+        steps, met = judged(it)
         for name in names:
-            if name not in found and difference(it, steps, WrongRules(WRONG[name])):
+            if name not in found and can_differ(name, met) and difference(it, steps, WrongRules(WRONG[name])):
                 found[name] = number
     return found
 

@@ -12,16 +12,20 @@ tests/journals_by_chance.py, with programs in the place of the built ones that d
 (tests/wrong_program.py). `wrong_tools`:
 tests/tools, tests/test_board_page.py and tests/follow_load.py, with commands of gikvand that are wrong in one thing
 (tests/wrong_tools.py). `wrong_packages`: tests/package, with pages, words for bash, services and packages that are
-(tests/wrong_package.py), and `wrong_edge_packages` the same of the edge's, once that is built. `wrong_scripts`: tests/test_users.py,
-test_pin.py, dictionary.py, promises.py, test_plays.py, test_ci.py, test_conftest.py, test_lint.py and test_measures.py, with scripts,
-pages, plays and a check that are (tests/wrong_scripts.py). `taken_ones`: what this itself says of tools that are right and of tests
-that there aren't: that they weren't refused.
+(tests/wrong_package.py), and `wrong_edge_packages` the same of the edge's, once that is built. Tests that ask nothing of a package's
+archive look at the package as it is laid out. `wrong_scripts`: tests/test_users.py, test_pin.py, dictionary.py, promises.py,
+test_clauses.py, test_documents.py, test_results.py, test_operating.py, test_plays.py, test_ci.py, test_conftest.py, test_lint.py,
+test_measures.py, test_edits.py and test_warm_pytest.py, with scripts, pages, sources, plays, results, alarms and a check that are (tests/wrong_scripts.py).
+`taken_ones`: what this itself says of tools that are right and of tests that there aren't: that they weren't refused.
 
 What isn't refused has a line. The last line is `N passed, M failed`, and the status is 1 where one failed. Build the
 programs first, by scripts/build; others are taken by the environment's VENUED, VENUE_REPLAY, VENUE_EVENTS and GIKVAND_EDGE.
 """
 import concurrent.futures
+import contextlib
+import functools
 import glob
+import io
 import os
 import re
 import shutil
@@ -63,8 +67,24 @@ PROGRAMS = {"VENUED": os.path.abspath(VENUED), "VENUE_REPLAY": os.path.abspath(R
             "GIKVAND_EDGE": checks.EDGE}
 A_DAY = [LOGON, sell(1, 5, 50), ("1", "112=hi|"), buy(2, 3, 50), buy(3, 4, 51), cut(4, 3), market(5, 2, 1), buy(6, 1, 49),
          ("0", "")]
-LONG = 180  # Seconds for a test with a wrong program, which may have to wait for what never comes.
+LONG = 180  # Seconds for a test with a wrong program, which may have to wait for what never comes. Behind half of them it says where it is,
+SHOWN = 2_000  # in so many characters at the most.
+HANGS = "import time\n\ndef test_that_hangs():\n    time.sleep(600)\n"
 PYTESTS = WarmPytests()
+COMPILED = ("tools", "scripts", "dev", "tests")  # Folders whose modules runs import.
+
+
+@functools.cache
+def known_by_all() -> dict[str, str]:
+    """What the environment of each run has. What Python compiles of the project's modules it keeps beside them once, in front of all runs,
+    and no run keeps more: else each of some 700 would compile them anew, or what is wrong."""
+    python, environment = debian.python_with_pytest(), {**os.environ, "PYTHONDONTWRITEBYTECODE": ""}
+    for words in (["compileall", "-q", *COMPILED], ["pytest", "-q", "--collect-only", "-p", "no:cacheprovider", "tests"]):
+        subprocess.run([python, "-m", *words], cwd=ROOT, env=environment, stdout=subprocess.DEVNULL, stderr=subprocess.DEVNULL, timeout=5 * LONG)
+    folder = checks.AT_END.enter_context(tempfile.TemporaryDirectory(prefix="known-bad-"))
+    os.mkdir(os.path.join(folder, "mypy"))
+    path = debian.path_with_python(os.path.join(folder, "path"))
+    return {**PROGRAMS, "PATH": path, "PYTHONDONTWRITEBYTECODE": "1", "MYPY_CACHE_DIR": f"{folder}/mypy"}
 
 
 def answer_to(judged: Judged) -> list[bytes]:
@@ -214,10 +234,10 @@ def ran(words: list[str], environment: dict[str, str]) -> tuple[int | None, str]
     path = os.path.join(TESTS, words[0])
     if os.path.isdir(path) or os.path.basename(path).startswith("test_"):
         named = [word for it in words[1:] for word in ("--named", it)]
-        options = ["-q", "-x", "-p", "no:cacheprovider", "-p", "no:xdist"]
+        options = ["-q", "-x", "-p", "no:cacheprovider", "-p", "no:xdist", "-o", f"faulthandler_timeout={LONG / 2}"]
         return PYTESTS.ran(debian.python_with_pytest(), [*options, *modules_at(path, words[1:]), *named], environment, LONG)
     try:
-        it = subprocess.run([sys.executable, path, *words[1:]], env=environment, timeout=LONG, stdout=subprocess.PIPE,
+        it = subprocess.run([debian.python_with_pytest(), path, *words[1:]], env=environment, timeout=LONG, stdout=subprocess.PIPE,
                             stderr=subprocess.STDOUT, text=True)
     except subprocess.TimeoutExpired:
         return None, ""
@@ -227,17 +247,23 @@ def ran(words: list[str], environment: dict[str, str]) -> tuple[int | None, str]
 def modules_at(path: str, names: list[str]) -> list[str]:
     """The modules of a folder that have tests of these names, so that no other one is read; else this path alone."""
     found = [it for it in sorted(glob.glob(os.path.join(path, "test_*.py")))
-             if any(name in test for test in TEST.findall(checks.text_of(it)) for name in names)]
+             if any(name.partition("[")[0] in test for test in TEST.findall(checks.text_of(it)) for name in names)]
     return found or [path]
+
+
+def stands(said: str) -> str:
+    """Where a run that doesn't end stands, its innermost call first; else the last that it said."""
+    at = said.find("Timeout (")
+    return said[at:][:SHOWN] if at >= 0 else said[-SHOWN:]
 
 
 def refused(words: list[str], wrong: str, settings: dict[str, str]) -> tuple[str, str | None]:
     """Runs a test of ours with these settings, by which something is wrong: its name, and why that is no refusal, or None."""
     name = f"{' '.join(words)} with {wrong or 'nothing wrong'}"
-    environment = {**os.environ, **settings, "VENUE_PATIENCE": "10" if wrong else "30"}
+    environment = {**os.environ, **known_by_all(), **settings, "VENUE_PATIENCE": "10" if wrong else "30"}
     status, said = ran(words, environment)
     if status is None:
-        return name, f"hasn't ended within {LONG} seconds"
+        return name, f"hasn't ended within {LONG} seconds: {stands(said)}"
     counted = re.fullmatch(r"(\d+) passed, (\d+) failed", (said.splitlines() or [""])[-1])
     if not counted:
         return name, f"ended without its last line: {said[-300:]}"
@@ -255,11 +281,13 @@ def refused_in_some_try(refuses: Callable, words: tuple) -> tuple[str, str | Non
         name, why = refuses(*words)
         if not why:
             break
+        print(f"not refused in a try: {name}: {why}", flush=True)
     return name, why
 
 
 def all_refuse(runs: Sequence[tuple], refuses: Callable = refuses) -> tuple[int, list[str]]:
     """Tries these, some side by side."""
+    known_by_all()  # (by one of them)
     with concurrent.futures.ThreadPoolExecutor(TOGETHER) as pool:
         said = list(pool.map(lambda it: refused_in_some_try(refuses, it), runs))
     return len(runs), [f"{name}: {why}" for name, why in said if why]
@@ -334,8 +362,7 @@ def refuses_tool(wrong: str) -> tuple[str, str | None]:
     """Runs tests of the commands of gikvand, or of a page, with this wrong one: its name, and why that is no refusal, or None."""
     it = WRONG_TOOLS[wrong]
     with tempfile.TemporaryDirectory(prefix="known-bad-") as folder:
-        settings = {**PROGRAMS, "TOOLS": it.put(os.path.join(ROOT, "tools"), folder)}
-        return refused([it.script, *it.tests.split()], wrong, settings)
+        return refused([it.script, *it.tests.split()], wrong, {"TOOLS": it.put(os.path.join(ROOT, "tools"), folder)})
 
 
 def wrong_tools() -> tuple[int, list[str]]:
@@ -347,7 +374,7 @@ def refuses_package(wrong: str) -> tuple[str, str | None]:
     """Runs tests of the package in a copy of what it takes that is wrong so: its name, and why that is no refusal, or None."""
     it = WRONG_PACKAGES[wrong]
     with tempfile.TemporaryDirectory(prefix="known-bad-") as folder:
-        return refused([it.put(ROOT, folder), *it.tests.split()], wrong, PROGRAMS)
+        return refused([it.put(ROOT, folder), *it.tests.split()], wrong, {"LAID_OUT": ""})
 
 
 def wrong_packages() -> tuple[int, list[str]]:
@@ -366,7 +393,7 @@ def refuses_script(wrong: str) -> tuple[str, str | None]:
     """Runs a test with a script, a page, a play or a full check that is wrong so: its name, and why that is no refusal, or None."""
     with tempfile.TemporaryDirectory(prefix="known-bad-") as folder:
         words, settings = WRONG_SCRIPTS[wrong].put(ROOT, folder)
-        return refused(words, wrong, {**PROGRAMS, **settings})
+        return refused(words, wrong, settings)
 
 
 def wrong_scripts() -> tuple[int, list[str]]:
@@ -375,7 +402,7 @@ def wrong_scripts() -> tuple[int, list[str]]:
 
 
 def taken_ones() -> tuple[int, list[str]]:
-    """What is right, a test that there isn't, and one that fails without its last line: none of that is a refusal."""
+    """What is right, a test that there isn't, one that fails without its last line, and one that hangs: none of that is a refusal."""
     cases = [("a tool that is right", ["tools", "headers"], "said '1 passed, 0 failed'"),
              ("a test that there isn't", ["tools", "no_test_of_this_name"], "ended with status 5 behind '0 passed, 0 failed'"),
              ("a test without a last line", ["checks.py"], "ended without its last line"),
@@ -383,13 +410,18 @@ def taken_ones() -> tuple[int, list[str]]:
              ("", ["tools", "headers"], None)]
     faults = []
     for name, words, why in cases:
-        came = refused(words, name, PROGRAMS)[1]
+        came = refused(words, name, {})[1]
         if (came or "").startswith(why or "taken") != bool(why) or why is None and came:
             faults.append(f"{name or 'nothing wrong'}: expected {why} came {came}")
-    count, found = all_refuse([(words, name) for name, words, why in cases[:1]], lambda words, name: refused(words, name, PROGRAMS))
-    if (count, len(found)) != (1, 1):
-        faults.append(f"a tool that is right counts as refused: {found}")
-    return len(cases) + 1, faults
+    with contextlib.redirect_stdout(io.StringIO()) as tries:
+        count, found = all_refuse([(words, name) for name, words, why in cases[:1]], lambda words, name: refused(words, name, {}))
+    if (count, len(found), tries.getvalue().count("not refused in a try: ")) != (1, 1, LATE):
+        faults.append(f"a tool that is right counts as refused: {found}, behind {tries.getvalue()}")
+    with tempfile.TemporaryDirectory(prefix="known-bad-") as folder, mock.patch(f"{__name__}.LONG", 16):
+        came = refused([checks.put_text(os.path.join(folder, "test_hangs.py"), HANGS)], "a test that hangs", {})[1] or ""
+    if not re.match(r"hasn't ended within 16 seconds: Timeout (?s:.*) in test_that_hangs\b", came):
+        faults.append(f"a test that hangs: {came}")
+    return len(cases) + 2, faults
 
 
 def main() -> None:
@@ -404,13 +436,14 @@ def main() -> None:
              wrong_scripts, taken_ones]
     chosen = [it for it in tests if not sys.argv[1:] or any(word in it.__name__ for word in sys.argv[1:])]
     failed = 0
-    for test in chosen:
-        count, faults = test()
-        for it in faults[:10]:
-            print(f"{test.__name__}: {it}")
-        print(f"{test.__name__}: {count} tried, {len(faults)} not refused", flush=True)
-        failed += bool(faults)
-    PYTESTS.end()
+    with checks.AT_END:
+        for test in chosen:
+            count, faults = test()
+            for it in faults[:10]:
+                print(f"{test.__name__}: {it}")
+            print(f"{test.__name__}: {count} tried, {len(faults)} not refused", flush=True)
+            failed += bool(faults)
+        PYTESTS.end()
     print(f"{len(chosen) - failed} passed, {failed} failed")
     sys.exit(1 if failed else 0)
 

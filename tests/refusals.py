@@ -108,7 +108,7 @@ def sample(count: int) -> list[int]:
 def compiled(source: str, out: str, *more: str) -> None:
     """Compiles a file of the project with cc."""
     words = ["cc", "-O1", "-o", out, os.path.join(ROOT, source), *more]
-    built = subprocess.run(words, capture_output=True, text=True)
+    built = subprocess.run(words, capture_output=True, text=True, timeout=PATIENCE)
     if built.returncode:
         raise Trouble(f"cc can't compile {source}: {built.stderr.strip()}")
 

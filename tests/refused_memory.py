@@ -106,17 +106,21 @@ def standard_session(sweeps: Sweeps) -> str:
 
 
 def is_served(port: int, number: int) -> bool:
-    """Whether the member is served: its Logon is answered and its order acknowledged. One that isn't is let go."""
-    client = Client(port, 1)
+    """Whether the member is served: its Logon is answered and its order acknowledged. One that isn't is let go. Between the two may
+    stand reports of earlier orders, which the venue hadn't passed over yet when the client before it went."""
+    client, earlier = Client(port, 1), [f"|11={it}|" for it in range(1, number)]
+    heard: list[str | None] = []
     try:
         client.send_bytes(LOGON + b"".join(orders(number, 1)))
         heard = [client.next(), client.next()]
+        while heard[0] and any(it in (heard[-1] or "") for it in earlier):
+            heard.append(client.next())
     except OSError:
         heard = [None]
     client.close()
     if heard[0] is None:
         return False
-    if f"|11={number}|" not in (heard[1] or ""):
+    if f"|11={number}|" not in (heard[-1] or ""):
         raise Trouble(f"expected the report of order {number} came {heard}")
     return True
 

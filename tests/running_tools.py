@@ -1,5 +1,6 @@
 """`gikvand follow` and `gikvand board` as programs of their own, for tests that let them run. Not a test: tests import it."""
 import os
+import select
 import signal
 import subprocess
 import sys
@@ -26,6 +27,8 @@ class Tool:
 
     def has_begun(self: T) -> T:
         """Waits for its first line."""
+        if not select.select([self.process.stdout], [], [], PATIENCE)[0]:
+            raise Trouble(f"its first line: not within {PATIENCE} seconds")
         if not sure(self.process.stdout).readline():
             raise Trouble(f"it ended: {self.process.communicate()[1]}")
         return self

@@ -4,6 +4,7 @@ tries too few tests makes it fail, that it leaves none out, and what it says whe
 Each of its parts is a script that says what it is told to. CI_RUN and CHECK in the environment name another .ci/run and another
 scripts/check: tests/known_bad.py puts wrong ones there.
 """
+import collections
 import fnmatch
 import glob
 import os
@@ -17,7 +18,7 @@ from typing import NamedTuple
 import pytest
 
 import crates
-from checks import ROOT, put_text
+from checks import ROOT, copy_program, put_text
 from script_modules import loaded
 from venues import Late, in_some_try
 
@@ -29,14 +30,20 @@ MODULES = ("scripts/crates.py", "scripts/debian.py", "scripts/needs_python.py")
 PATIENCE = 120
 PART = '#!/bin/bash\necho "{name} $*" >>{asked}\n{does}\n'
 A_PLAY = "tests/one.play"
-# In the place of pytest: it does what the script does that has the name of its words, with as many workers as the table says.
-PYTEST = """
-import os, re, sys
-if __name__ == "__main__":
-    words = " ".join(["pytest", *sys.argv[2:]]).replace("A_PLAY", "tests/*.play")
-    script = re.sub(r"-n [0-9]+", "-n N", words).replace("/", ":")
-    os.execv("/bin/bash", ["bash", os.path.join(os.path.dirname(os.path.abspath(__file__)), script), *words.split()[1:]])
-""".replace("A_PLAY", A_PLAY)
+# In the place of Python, which is started once in a check, and not for each part: that takes as long as ten scripts. Asked for pytest it
+# does what the script does that has the name of its words, with as many workers as the table says; asked for modules it has them all.
+PYTHON = r"""#!/bin/bash
+set -f
+case "$1 $2" in
+"-m pytest")
+    play=A_PLAY words="pytest ${*:4}"
+    words=${words//"$play"/tests/*.play} script=$words
+    [[ $words =~ (.*-n )[0-9]+(.*) ]] && script=${BASH_REMATCH[1]}N${BASH_REMATCH[2]}
+    exec bash "MODULES/${script//\//:}" ${words#* } ;;
+"-c "*) exit 0 ;;
+*) exec -a "$0" PYTHON "$@" ;;
+esac
+"""
 ELSEWHERE = ("rt", "chromium", "glusterd", "valgrind", "apt-get")  # Programs of the path.
 BUILT = ("crates/venued/out/venued", "crates/venue_replay/out/venue_replay", "crates/venue_events/out/venue_events",
          "crates/bench/out/bench", "edge/out/gikvand-edge", "edge/out/tradeclient", "edge/out/FIX44.xml",
@@ -102,19 +109,20 @@ def ran(*words: str, by: str = "scripts/check", without: tuple[str, ...] = (), *
         os.makedirs(os.path.dirname(os.path.join("tree", path)), exist_ok=True)
     for path, (name, texts) in stubs.items():
         put_text(os.path.join("tree", path), PART.format(name=name, asked=asked, does="\n".join(texts)), 0o755)
-    for path, text in (("modules/pytest.py", PYTEST), (A_PLAY, "")):
-        put_text(os.path.join("tree", path), text)
+    put_text(os.path.join("tree", A_PLAY), "")
+    python = put_text("tree/path/python3", PYTHON.replace("A_PLAY", A_PLAY).replace("MODULES", os.path.abspath("tree/modules"))
+                      .replace("PYTHON", sys.executable), 0o755)
     for path in BUILT:
         if path not in without:
             shutil.copy("/bin/true", os.path.join("tree", path))
-    for path, source in (("scripts/check", CHECK), (".ci/run", RUN), *((it, os.path.join(ROOT, it)) for it in MODULES)):
-        shutil.copy(source, os.path.join("tree", path))
+    for path, source in (("scripts/check", CHECK), (".ci/run", RUN), *((it, "") for it in MODULES)):
+        copy_program(path, source, "tree")
         os.chmod(os.path.join("tree", path), 0o755)
     kept = {name: value for name, value in os.environ.items()
             if name not in ("VENUED", "VENUE_REPLAY", "VENUE_EVENTS", "GIKVAND_EDGE", "GIKVAND_FEED", "BENCH", "CHROMIUM")}
-    path = f"{os.path.abspath('tree/path')}:{os.path.dirname(sys.executable)}:/usr/bin:/bin"
-    it = subprocess.run(["bash" if by == ".ci/run" else sys.executable, f"tree/{by}", *words], capture_output=True, text=True,
-                        timeout=PATIENCE, env={**kept, "PATH": path, "PYTHONPATH": os.path.abspath("tree/modules")}, stdin=subprocess.DEVNULL)
+    path = f"{os.path.abspath('tree/path')}:/usr/bin:/bin"
+    it = subprocess.run(["bash" if by == ".ci/run" else python, f"tree/{by}", *words], capture_output=True, text=True, timeout=PATIENCE,
+                        env={**kept, "PATH": path}, stdin=subprocess.DEVNULL)
     called = []
     if os.path.exists(asked):
         with open(asked, encoding="ascii") as file:
@@ -171,7 +179,7 @@ def test_a_part_that_takes_long(capsys: pytest.CaptureFixture, monkeypatch: pyte
 def takes_long(capsys: pytest.CaptureFixture) -> None:
     """Runs such a part. Where this process stands still meanwhile it has nothing to show."""
     module = checker()
-    counts = "i=0; while [ $i -lt 300000 ]; do i=$((i + 1)); done"  # By a process of its own.
+    counts = "i=0; while [ $i -lt 100000 ]; do i=$((i + 1)); done"  # By a process of its own.
     slow = put_text("slow", f"#!/bin/sh\necho first\nsh -c '{counts}'\nsleep 2\necho '3 passed, 0 failed'\n", 0o755)
     ended = module.Check().ran(module.Part("slow", slow, "quick", 3), 1, 0.5)
     assert (ended.status, ended.lines, ended.seconds >= 2) == (0, ["first", "3 passed, 0 failed"], True)
@@ -179,6 +187,28 @@ def takes_long(capsys: pytest.CaptureFixture) -> None:
     shown = capsys.readouterr().out.splitlines()
     if f"{'slow':18}  0 minutes; its newest line: first" not in shown:
         raise Late(f"expected its newest line came {shown}")
+
+
+def test_a_part_that_stands_still(capsys: pytest.CaptureFixture, monkeypatch: pytest.MonkeyPatch) -> None:
+    """A part of the full check that comes to no end is ended, and has failed; the proofs may take as long as they take."""
+    module = checker()
+    monkeypatch.setattr(module, "SAID", os.path.abspath("said"))
+    monkeypatch.setattr(module, "HEARD", 0.5)
+    monkeypatch.setattr(module, "MOST", 0.4)
+    in_some_try(lambda _: stands_still(capsys), "a_part_that_stands_still")
+
+
+def stands_still(capsys: pytest.CaptureFixture) -> None:
+    """Runs such a part, and the proofs. Where they say their first line late there is no newest one yet."""
+    module = checker()
+    for name, does, verdict in (("still", "exec sleep 20", (0, 1, "it ended with status -9, and without its last line")),
+                                (module.PROOFS, "sleep 2; echo '1 passed, 0 failed'", (1, 0, ""))):
+        does = put_text(name, f"#!/bin/sh\necho first\n{does}\n", 0o755)
+        assert module.Check().run_one(module.Part(name, does, "quick", 1)) == verdict
+        shown = capsys.readouterr().out
+        if "its newest line: none" in shown:
+            raise Late(f"expected its newest line came {shown}")
+        assert ("are too many; its newest line: first" in shown) == (name == "still")
 
 
 def test_the_longest_first(monkeypatch: pytest.MonkeyPatch) -> None:
@@ -192,6 +222,7 @@ def test_the_longest_first(monkeypatch: pytest.MonkeyPatch) -> None:
         ("one", "quick"), ("two", "slow"), ("three", "quick"), ("four", "slow"), ("five", "quick"))]
     for name, seconds in (("three", "70.5"), ("four", "2"), ("five", "no number")):
         put_text(f"said/{name}.seconds", seconds)
+    assert [module.last_time(it) for it in parts] == ["-", "-", "70 s", "2 s", "-"]
     check = module.Check()
     check.run_beside(parts, False)
     with open("asked", encoding="ascii") as file:
@@ -225,7 +256,7 @@ def test_a_setup_that_fails() -> None:
     """Where edge/setup ends badly that counts, and no part of the edge is called, and so with the feed's; dev/measures counts as any
     part."""
     module = checker()
-    more: dict[str, set[str]] = {"edge-setup": {"framer"}}
+    more: dict[str, set[str]] = {"edge-setup": {"framer", "known_bad"}}
     for setup in module.SETUPS:
         came = ran(by=".ci/run", without=(), **{setup: "exit 1"})
         behind = more.get(setup, set()) | {it.name for it in module.PARTS if setup.split("-")[0] in it.name} - {setup}
@@ -251,6 +282,14 @@ def test_proofs_that_fail() -> None:
 
 
 @pytest.mark.skipif(os.geteuid() != 0, reason="a network of its own is for root")
+def test_the_python_of_a_part() -> None:
+    """In a part python3 is at once the Python of the tests, which the path may have behind a script that looks for one. No link to it
+    stands in the project, in which rt takes none."""
+    count, own = counted()["users"], os.path.abspath("tree/path/python3")
+    is_so = f'[[ $(readlink "$(command -v python3)") == "{own}" && -z $(find . -type l) ]]'
+    assert ran("users", users=f"{is_so} || exit 1; {passes(count)}").last == f"{count} passed, 0 failed"
+
+
 def test_a_network_of_its_own() -> None:
     """Each part with venues has one, in which the system's own address is there, and a part that installs packages has none."""
     if subprocess.run(["unshare", "--net", "ip", "link", "set", "lo", "up"], stderr=subprocess.DEVNULL).returncode:
@@ -265,6 +304,20 @@ def test_a_network_of_its_own() -> None:
             assert (name, "inet 127.0.0.1/8" in at.read()) == (name, True)
     ours = os.readlink("/proc/self/ns/net")
     assert (len(set(networks[:2])), ours in networks[:2], networks[2:]) == (2, False, [ours] * 2)
+
+
+@pytest.mark.parametrize("words", (
+    [sys.executable, "-c", "import sys; sys.path[:0] = ['scripts']; import debian; debian.install('a-package')"],
+    ["bash", "-c", "cd edge && . ./packages.bash && need a-package"]))
+def test_packages_while_others_are_installed(words: list[str]) -> None:
+    """Whoever installs packages waits for somebody else who does so just then, as a Debian that looks for new ones by itself."""
+    put_text("path/apt-get", PART.format(name="apt-get", asked=os.path.abspath("asked"), does="true"), 0o755)
+    put_text("path/dpkg-query", "#!/bin/sh\nexit 1\n", 0o755)
+    put_text("path/sudo", '#!/bin/sh\nexec "$@"\n', 0o755)
+    assert subprocess.run(words, cwd=ROOT, env={**os.environ, "PATH": f"{os.path.abspath('path')}:/usr/bin:/bin"}, timeout=PATIENCE).returncode == 0
+    with open("asked", encoding="ascii") as file:
+        options = [" ".join(line.split()[1:3]) for line in file]
+    assert options == ["-o DPkg::Lock::Timeout=600"]
 
 
 @EVERY_KIND
@@ -319,8 +372,8 @@ def test_side_by_side() -> None:
 
 
 def test_nothing_is_built() -> None:
-    """Where the programs aren't built it says what builds them, tries nothing, and ends with status 2; without the edge, a browser or
-    the benchmark it says what is left out, and tries all others."""
+    """Where the programs aren't built it says what builds them, tries nothing, and ends with status 2; without the edge, a browser, the
+    benchmark or a package it says what is left out, and tries all others."""
     for without in (BUILT, BUILT[:1], BUILT[2:3]):
         came = ran(without=without)
         wanted = [f"check: {it} isn't built: {f'{it[:4]}/setup --tests' if it.startswith(('edge/', 'feed/')) else 'scripts/build'} builds it"
@@ -332,8 +385,10 @@ def test_nothing_is_built() -> None:
     assert (came.status, len(came.called)) == (0, 1)
     for without, part, why in ((("edge/out/tradeclient",), "edge", "edge/out/tradeclient isn't built: edge/setup --tests builds it"),
                                (("crates/bench/out/bench",), "twins", "crates/bench/out/bench isn't built: `rt run` in crates/bench"),
-                               (("chromium",), "board", "without Chromium nothing of it can be tried")):
-        if part == "board" and any(shutil.which(it, path="/usr/bin:/bin") for it in checker().BROWSERS):
+                               (("chromium",), "board", "without Chromium nothing of it can be tried"),
+                               (("glusterd",), "drill", "without Debian's glusterfs-server and glusterfs-client nothing of it can be tried"),
+                               (("valgrind",), "instructions", "without Debian's valgrind nothing of it can be tried")):
+        if any(shutil.which(it, path="/usr/bin:/bin") for it in (checker().BROWSERS if part == "board" else without)):
             continue
         came = ran(without=without)
         assert (came.status, [it for it in came.lines if it.startswith(f"{part:18}  is left out: {why}")] != []) == (0, True)
@@ -352,6 +407,7 @@ def test_words_of_the_check() -> None:
             by, [])
     came = ran("--list")
     assert (came.status, [it.split()[0] for it in came.lines], came.called) == (0, names, [])
+    assert {it.split()[2] for it in came.lines} == {"-"}
     for words, by in ((("nothing",), "scripts/check"), (("users", "nothing"), "scripts/check"), (("--all", "users"), "scripts/check"),
                       (("--nothing",), "scripts/check"), (("users",), ".ci/run")):
         came = ran(*words, by=by)
@@ -368,8 +424,7 @@ def test_no_part_is_left_out() -> None:
     assert sorted(programs - called - NO_PARTS) == []
     assert sorted(called - programs) == []
     assert len(set(commands())) == len(commands())
-    tried = [path for it in of_pytest() for path in files if any(covers(word, path) for word in it.command.split())
-             and f"--ignore={path}" not in it.command.split()]
+    tried = [path for it in of_pytest() for path in files if is_of(it, path)]
     assert sorted(tried) == sorted(it for it in files if covers("tests/test_*.py", os.path.join("tests", os.path.basename(it)))
                                    or it.endswith(".play"))
 
@@ -377,6 +432,12 @@ def test_no_part_is_left_out() -> None:
 def of_pytest() -> list:
     """The parts that pytest runs."""
     return [it for it in checker().PARTS if it.command.startswith("pytest ")]
+
+
+def is_of(part: tuple, path: str) -> bool:
+    """Whether tests of this file are of a part that pytest runs."""
+    words = part[1].split()
+    return any(covers(word, path) for word in words) and f"--ignore={path}" not in words
 
 
 def covers(word: str, path: str) -> bool:
@@ -395,12 +456,14 @@ def test_what_the_prover_refuses() -> None:
 
 def test_least_counts() -> None:
     """The least count of a part that pytest runs is no more than there are tests, and not much less; that of the proofs is of all crates
-    and of all edits that are tried one by one."""
-    proofs, = (it.least for it in checker().PARTS if it.command == "rt ci")
-    count = len(crates.listed()) + len(glob.glob(os.path.join(ROOT, "crates/*/must-fail/*.edit")))
-    assert 0.9 * count <= proofs <= count
+    and of all edits that the kit tries; and of the wrong bodies that were asked for none is left out, and a right one is tried."""
+    least = {it.command.split(" --as-made")[0]: it.least for it in checker().PARTS}
+    apart, within = (len(glob.glob(os.path.join(ROOT, it))) for it in ("must-fail/*/*.edit", "crates/*/must-fail/*.edit"))
+    assert least["rt ci"] == len(crates.listed()) + within
+    assert least["dev/edits --must-fail"] == apart + within + 1
+    said = subprocess.run([sys.executable, "-m", "pytest", "-q", "-n", "0", "--collect-only", "tests"], cwd=ROOT, capture_output=True, text=True,
+                          timeout=4 * PATIENCE).stdout
+    tests = collections.Counter(line.partition("::")[0] for line in said.splitlines() if "::" in line)
     for it in of_pytest():
-        words = [*it.words(1), "-n", "0", "--collect-only"]
-        found = subprocess.run(words, cwd=ROOT, capture_output=True, text=True, timeout=PATIENCE).stdout
-        count = sum("::" in line for line in found.splitlines())
+        count = sum(tests[path] for path in tests if is_of(it, path))
         assert 0.9 * count <= it.least <= count, f"{it.name} has {count} tests, and the least count is {it.least}"

@@ -1,4 +1,5 @@
-"""Tests of conftest.py: the last line by which scripts/check counts, which tests are chosen, the folder of each, and plays as tests."""
+"""Tests of conftest.py: the last line by which scripts/check counts, which tests are chosen, the folder of each, and plays as tests; and
+of the projects of links that checks.py makes."""
 import os
 import re
 import subprocess
@@ -6,7 +7,7 @@ import sys
 
 import pytest
 
-from checks import ROOT, put_text
+from checks import ROOT, contents, link_there, put_text
 
 pytestmark = pytest.mark.quick
 
@@ -39,6 +40,19 @@ def test_two():
 def test_three():
     assert os.listdir() == []
 """
+DIFFERENCES = """
+import difflib
+import os
+import pytest
+
+@pytest.mark.parametrize("one, other", ((b"one", b"other"), ("one", "other"), (["one"], ["other"])))
+def test_it(one, other, monkeypatch):
+    monkeypatch.setattr(difflib, "ndiff", lambda *_: open(os.environ["ASKED"], "w"))
+    assert one == other
+
+def test_other():
+    assert "a" not in "ab"
+"""
 SHELL = '#!/bin/bash\neval "$1"\n'
 
 
@@ -69,11 +83,36 @@ def test_what_cannot_be_read() -> None:
         assert not LAST_LINE.fullmatch(last)
 
 
+def test_differences() -> None:
+    """How two things differ is looked for by nobody, also where the environment has CI: of long ones that takes hours."""
+    made, asked = put_text("test_made.py", DIFFERENCES), os.path.abspath("asked")
+    for name in ("NO_CI", "CI"):
+        assert tried(made, **{"ASKED": asked, name: "true"}) == (1, "0 passed, 4 failed")
+    assert not os.path.exists(asked)
+
+
 def test_folders() -> None:
     """Each test has an empty folder of its own, and nothing of it is left."""
     os.mkdir("folders")
     assert tried(put_text("test_made.py", FOLDERS), TMPDIR=os.path.abspath("folders")) == (0, "3 passed, 0 failed")
     assert os.listdir("folders") == []
+
+
+def test_projects_of_links() -> None:
+    """What is copied there may be another one, and what Python compiles anew stays there. All else is the project's own."""
+    own = {it: it.encode() for it in ("one/a.py", "one/b.py", "one/__pycache__/a.pyc", "one/in/e", "two/c.py", "three/f", "d")}
+    for path in own:
+        put_text(f"project/{path}", path)
+    os.mkdir("there")
+    link_there(os.path.abspath("project"), ("one/a.py", "three"), "there")
+    assert {it: contents(f"there/{it}") for it in own} == own
+    below = [os.path.join(folder, it) for folder, folders, names in os.walk("there") for it in (*folders, *names)]
+    assert sorted(it for it in below if os.path.islink(it)) == [f"there/{it}" for it in ("d", "one/__pycache__/a.pyc", "one/b.py", "one/in", "two")]
+    assert os.stat("there/one/a.py").st_mtime == os.stat("project/one/a.py").st_mtime
+    for path in ("one/a.py", "three/f", "one/__pycache__/new"):
+        put_text(f"there/{path}", "another one")
+    os.replace("there/one/__pycache__/new", "there/one/__pycache__/a.pyc")
+    assert {it: contents(f"project/{it}") for it in own} == own
 
 
 def test_plays() -> None:

@@ -6,13 +6,12 @@ MEASURES in the environment names another dev/measures, or another module of it:
 import json
 import os
 import re
-import shutil
 import subprocess
 import sys
 
 import pytest
 
-from checks import ROOT
+from checks import copy_program
 
 pytestmark = pytest.mark.quick
 
@@ -24,6 +23,7 @@ PATIENCE = 120
 NINE = "".join(f"    ensures e{it} {{ result ≡ {it} }}\n" for it in range(9))
 TAGS = (11, 38, 40, 41, 44, 54, 55, 59, 60)
 FILES = {
+    ".gitignore": "__pycache__/\n",
     "crates.txt": "rings:\nbarrier: rings\nwires:\nworkers: wires\ngateway: rings barrier wires workers\nvenue: workers gateway\n"
                   "venued: venue\nring_tests: rings\n",
     "crates/rings/src/lib.rt": """
@@ -314,8 +314,7 @@ def venue() -> None:
     """Makes the test's folder the made-up venue, with dev/measures and its modules."""
     other = os.environ.get("MEASURES", "")
     for path in OWN:
-        os.makedirs(os.path.dirname(path), exist_ok=True)
-        shutil.copy(other if other and os.path.basename(other) == os.path.basename(path) else os.path.join(ROOT, path), path)
+        copy_program(path, other if os.path.basename(other) == os.path.basename(path) else "")
     for path, text in FILES.items():
         put(path, text.lstrip("\n"))
 

@@ -12,6 +12,7 @@ import re
 import select
 import shutil
 import signal
+import socket
 import subprocess
 import sys
 import time
@@ -20,14 +21,15 @@ from unittest import mock
 import pytest
 
 import crates
-from checks import ROOT, contents, put, put_text
+from checks import ROOT, contents, put, put_text, text_of
 from gikvand import journals
+from gikvand.fix import sealed
 from gikvand.journals import Entry
 from gikvand.words import sure
 from pictures import Picture, row_of
 from script_modules import loaded
 from venues import EVENTS, HOST, PATIENCE, REPLAY, TIME, VENUED, Late, Trouble, await_that, free_port, in_some_try
-from venues import market_order, message, order, started
+from venues import market_order, message, order, running, started
 
 pytestmark = [pytest.mark.quick, pytest.mark.usefixtures("programs")]
 
@@ -411,6 +413,19 @@ def test_the_demo() -> None:
     assert (status, err, os.listdir()) == (0, [], [])
 
 
+def test_a_demo_that_is_kept() -> None:
+    """With a folder the journal stays there, with its symbols, and other commands read it; one that is there is left as it is."""
+    status, out, err = ran([script("demo"), "--keep", "kept"])
+    assert (status, err, out[-1], sorted(os.listdir("kept"))) == (
+        0, [], "The journal stays: gikvand trades kept/demo.journal", ["demo.journal", "demo.journal.symbols"])
+    status, out, _ = ran([script("gikvand"), "verify", "kept/demo.journal"])
+    assert (status, out[-1]) == (0, "kept/demo.journal: nothing is wrong")
+    trades = ran([script("gikvand"), "trades", "kept/demo.journal"])[1]
+    assert [it.partition(": ")[2].partition(",")[0] for it in trades] == ["30 ABC at 50", "20 ABC at 50"]
+    status, out, err = ran([script("demo"), "--keep", "kept"])
+    assert (status, out, err) == (2, [], ["gikvand demo: kept: File exists"])
+
+
 def test_demos_that_fail() -> None:
     """A venue that isn't there, can't start, or ends with another status: a line, and status 2. So with wrong words."""
     assert ran([script("demo"), "x"])[:2] == (2, [])
@@ -633,6 +648,25 @@ def again(*words: str) -> tuple[int, list[str], list[str], list[str]]:
 def proved(out: list[str]) -> list[str]:
     """The crates of which a build says that they are proved."""
     return sorted(it.split()[3] for it in out if re.search(r"^ *\d+ of \d+ .*\d+ functions proved", it))
+
+
+def test_the_example_member() -> None:
+    """Its help is what it says of itself. An edge that begins anew is told from what the file of its numbers has, by that file's name."""
+    member = [sys.executable, os.path.join(ROOT, "examples/member.py")]
+    status, out, err = ran([*member, "--help"])
+    assert (status, out[:1], err) == (0, [text_of("examples/member.py").splitlines()[1].removeprefix('"""')], [])
+    assert ran(member) == (1, [], out)
+    put_text("DESK-A.numbers", "7 4\n")
+    body = "35=A\x0134=1\x0149=GIKVAND\x0152=20250102-09:30:00\x0156=DESK-A\x0198=0\x01108=30\x01"
+    with socket.create_server((HOST, 0)) as server:
+        it = subprocess.Popen([*member, str(server.getsockname()[1])], stdin=subprocess.PIPE, stderr=subprocess.PIPE, text=True)
+        running.append(it)
+        server.settimeout(PATIENCE)
+        with server.accept()[0] as edge:
+            edge.sendall(sealed(body.encode()))
+            said = it.communicate(timeout=PATIENCE)[1]
+    assert (it.returncode, said.partition(": 8=")[0]) == (
+        1, "number 1 where 4 is next, as DESK-A.numbers says: remove that file where the edge is another one than before")
 
 
 def test_a_build() -> None:

@@ -6,16 +6,17 @@ from typing import NamedTuple
 
 import checks
 
-TAKEN = ("CHANGELOG.md", "LICENSE", "VERSION", "contrib", "crates.txt", "dev", "docs", "edge", "examples", "feed", "pyproject.toml", "scripts", "tests", "tools")
-# What a test needs; those of a package need dpkg-deb.
+STARTED = "scripts"  # The programs that pack: what they import may be wrong.
+AS_THEY_STAND = ("contrib", "edge", "examples", "feed", "tools")  # What debhelper packs of these, it packs as it finds it: links as links.
+# What a test needs; those of a package need debhelper.
 NEEDED = {"lint_of_the_pages": "mandoc", "lint_of_the_package": "lintian", "services": "systemd-analyze",
           "the_user_of": "systemd-sysusers", "calls_of_the_step": "cc", "calls_of_the_package": "cc", "trusts_no_memory": "cc",
-          "calls_of_the_watch": "cc",
+          "calls_of_the_watch": "cc", "of_the_firewall": "nft",
           "lint_of_the_edge_pages": "mandoc", "lint_of_the_edge_package": "lintian", "services_of_the_edge": "systemd-analyze",
           "users_of_the_edge": "systemd-sysusers"}
 FOR_ROOT = {"test_let_go", "no_store", "silent_machines", "never_answered", "hears_nobody", "evictions_that", "answer_again",
-            "commands_that_hang", "of_this_machine", "own_mounts", "words_of_the_fence", "go_of_cephfs", "what_machines_leave",
-            "that_say_no_word"}  # Tests that mount, or have a network.
+            "commands_that_hang", "that_begin_late", "of_this_machine", "own_mounts", "words_of_the_fence", "go_of_cephfs",
+            "what_machines_leave", "that_say_no_word", "of_the_firewall"}  # Tests that mount, or have a network.
 # Tests for which the system's folders have to be others.
 IN_OTHER_PLACES = {"as_it_is", "behind_it", "edge_example", "edge_as_it_is_installed", "edge_as_it_is_removed", "edge_example_hours",
                    "edge_second_member"}
@@ -30,7 +31,7 @@ class Wrong(NamedTuple):
 
     def can_be_seen(self) -> bool:
         """Whether what the tests need is here."""
-        has_programs = all(shutil.which(it) for it in ("dpkg-deb", "strip", NEEDED.get(self.tests, "strip")))
+        has_programs = all(shutil.which(it) for it in ("dh_builddeb", NEEDED.get(self.tests, "dh_builddeb")))
         has_edge = not self.is_of_the_edge() or checks.is_edge_built()
         has_rights = self.tests not in FOR_ROOT or os.geteuid() == 0
         return has_programs and has_edge and has_rights and (self.tests not in IN_OTHER_PLACES or checks.can_have_places())
@@ -40,8 +41,9 @@ class Wrong(NamedTuple):
         return "edge" in self.tests
 
     def put(self, root: str, folder: str) -> str:
-        """Makes a copy of what tests/package needs in this folder that is wrong so, and gives the test's path there."""
-        checks.copy_there(root, TAKEN, folder)
+        """Makes a project in this folder that is wrong so, and gives the path of tests/package there."""
+        above = self.file.partition("/")[0]
+        checks.link_there(root, (STARTED, above if above in AS_THEY_STAND else self.file), folder)
         checks.change(os.path.join(folder, self.file), self.old, self.new)
         return os.path.join(folder, "tests/package")
 
@@ -56,19 +58,22 @@ OPERATING, RECIPE = "docs/OPERATING.md", "contrib/container/Containerfile"
 SCRIPT, COMMANDS, COMPLETION, RELEASE = "scripts/package", "scripts/commands_page.py", "contrib/gikvand.bash", "scripts/release"
 EDGE_PAGE, EDGE_SETTINGS, EDGE_LIST = "contrib/man/gikvand-edge.8", "docs/EDGE.md", "scripts/settings_page.py"
 EDGE_SERVICE, EDGE_USERS, DROP_IN = (f"contrib/edge/{it}" for it in ("gikvand-edge@.service", "gikvand-edge.sysusers", "venued-edge.conf"))
-EDGE_CONTROL, EDGE_POSTINST, EDGE_PRERM, EDGE_POSTRM = (f"contrib/edge/debian/{it}" for it in ("control", "postinst", "prerm", "postrm"))
+RULES, CONTROL, PACKED, EDGE_PACKED, EDGE_PRERM = (f"contrib/debian/{it}" for it in ("rules", "control", "gikvand.install",
+                                                                                     "gikvand-edge.install", "gikvand-edge.prerm"))
+OF_ITS_TIME = '"SOURCE_DATE_EPOCH": str(time)', '"SOURCE_DATE_EPOCH": str(int(os.stat(folder).st_mtime))'
 WRONG = {
     "a release of what no commit has": Wrong(RELEASE, 'if changed := line_of("git", "status", "--porcelain"):', 'if changed := "":', "no_commit_has"),
     "a release of files that git doesn't know": Wrong(RELEASE, '"--porcelain"', '"--porcelain", "--untracked-files=no"', "no_commit_has"),
-    "a release of a crate without a verdict": Wrong(RELEASE, "if it not in found]:", "if False]:", "verdicts_that_lack"),
+    "a release of a crate without a verdict": Wrong(RELEASE, "if it not in found]:", "if False]:", "verdicts_that_lack[none]"),
     "a release of what failed": Wrong(RELEASE, "if not PASSED.fullmatch(", "if PASSED.fullmatch(", "verdicts_that_lack"),
-    "a verdict of the crate's tests": Wrong(RELEASE, "if not head[2] and (it := ", "if (it := ", "verdicts_that_lack"),
+    "a verdict of the crate's tests": Wrong(RELEASE, "if not head[2] and (it := ", "if (it := ", "verdicts_that_lack[one]"),
     "nothing that the prover trusts": Wrong(RELEASE, 'if word.endswith("=trusted")]', "if False]", "a_release"),
     "programs as they were built alone": Wrong(RELEASE, 'programs[name]["packaged"] = came', "pass", "a_release"),
     "an archive of its hour": Wrong(RELEASE, "gzip.compress(archive, 9, mtime=0)", "gzip.compress(archive, 9)", "a_release"),
     "sources without the last": Wrong(RELEASE, "for it in names if it}", "for it in names[1:] if it}", "a_release"),
     "sums without the manifest": Wrong(RELEASE, "for it in sorted(files))", "for it in sorted(files[:-1]))", "a_release"),
-    "a release without the feed": Wrong(RELEASE, '("--edge",), ("--feed",))', '("--edge",))', "a_release"),
+    "a release without the feed": Wrong(SCRIPT, 'list(PROGRAMS) if given', 'list(PROGRAMS)[:2] if given', "a_release"),
+    "packages of their hour": Wrong(RELEASE, '"git", "log", "-1", "--format=%ct")', '"date", "+%s")', "a_release"),
     "verdicts that are made once more": Wrong(RELEASE, "    if verdicts:\n", "    if False:\n", "verdicts_of_before"),
     "a program that isn't built": Wrong(RELEASE, "if not os.access(it, os.X_OK)]", "if False]", "no_commit_has"),
     "words in another order": Wrong(VENUED, ".Ar PORT JOURNAL GATEWAYS", ".Ar JOURNAL PORT GATEWAYS", "usages"),
@@ -90,8 +95,8 @@ WRONG = {
     "examples in one line": Wrong(COMMANDS, '        if part.startswith(" "):\n', "        if False:\n", "commands_of_gikvand"),
     "an image that starts nothing": Wrong(RECIPE, " && systemctl enable venued", "", "recipe_of_containers"),
     "an image without the edge": Wrong(RECIPE, " /root/gikvand-edge_*_amd64.deb && ", " && ", "recipe_of_containers"),
-    "a page without its commands": Wrong(SCRIPT, 'commands_page.filled(contents(f"contrib/man/{name}").decode()).encode()',
-                                         'contents(f"contrib/man/{name}")', "files_of_the_package"),
+    "a page without its commands": Wrong(SCRIPT, 'commands_page.filled(contents(f"contrib/man/{name}"))', 'contents(f"contrib/man/{name}")',
+                                         "files_of_the_package"),
     "a journal of another version": Wrong(JOURNAL, "00 00 00 03 00", "00 00 00 02 00", "the_page_of"),
     "longer messages": Wrong(JOURNAL, "1 to 320 Ta its", "1 to 321 Ta its", "the_page_of"),
     "a list without an end": Wrong(VENUED, ".It 128 + n\nSignal n ended it, as a shell says it.\n.El\n", "", "lint_of_the_pages"),
@@ -99,7 +104,7 @@ WRONG = {
     "a command that isn't completed": Wrong(COMPLETION, '    [day]=""\n', "", "completed"),
     "values as options": Wrong(COMPLETION, '    elif [[ $_gikvand_valued == *" $before "* ]]; then\n        return\n', "", "completed"),
     "values as words": Wrong(COMPLETION, '-*) [[ $_gikvand_valued == *" ${words[at]} "* ]] && ((at += 1)) ;;', "-*) ;;", "completed"),
-    "files that aren't completed": Wrong(COMPLETION, " --journal --password-file --sources ", " --password-file --sources ", "completed"),
+    "files that aren't completed": Wrong(COMPLETION, " --journal --keep --password-file --sources ", " --keep --password-file --sources ", "completed"),
     "values behind a sign": Wrong(COMPLETION, "        before=${begun%%=*} begun=${begun#*=}\n", "        before=${begun%%=*}\n", "completed"),
     "symbols that bash does": Wrong(COMPLETION, "$symbol =~ ^[A-Z0-9]{1,8}$ && ", "", "completed"),
     "symbols twice": Wrong(COMPLETION, '&& " $* " != *" $symbol "* ', "", "completed"),
@@ -114,14 +119,20 @@ WRONG = {
     "a limit of starts": Wrong(SERVICE, "StartLimitIntervalSec=0", "StartLimitIntervalSec=300", "settings_of"),
     "a journal in one word": Wrong(COMPLETION, "            --journal=*) journal=${words[at]#*=} ;;\n", "", "completed"),
     "a user who may log in": Wrong("contrib/venued.sysusers", "/var/lib/venued\n", "/var/lib/venued /bin/bash\n", "the_user_of"),
-    "programs with their symbols": Wrong(SCRIPT, 'ran("strip", "--strip-unneeded", "--remove-section=.comment", "-o", '
-                                         'self.path(name), program)', "shutil.copyfile(program, self.path(name))", "files_of"),
-    "times of now": Wrong(SCRIPT, "        tree.settle(time)\n", "", "the_same"),
-    "files of all rights": Wrong(SCRIPT, "TEXT, PROGRAM, FOLDER = 0o644", "TEXT, PROGRAM, FOLDER = 0o666", "files_of"),
-    "a module too few": Wrong(SCRIPT, 'if name.endswith((".py", ".html")):', 'if name.endswith(".html"):', "files_of"),
-    "a page too few": Wrong(SCRIPT, 'if name.endswith((".py", ".html")):', 'if name.endswith(".py"):', "files_of"),
+    "programs with their symbols": Wrong(RULES, "\tdh_strip --no-automatic-dbgsym\n", "", "files_of_the_package"),
+    "times of now": Wrong(SCRIPT, *OF_ITS_TIME, "the_same"),
+    "times of before": Wrong(RULES, "\tfind debian -exec touch --no-dereference --date=@$(SOURCE_DATE_EPOCH) {} +\n", "", "the_same"),
+    "rights of who makes it": Wrong(RULES, "\tdh_fixperms\n", "", "the_same"),
+    "files of all rights": Wrong(RULES, "\tdh_fixperms\n", "\tchmod -R a+w debian/*/usr\n", "files_of_the_package"),
+    "a module too few": Wrong(PACKED, "*.{py,html}", "*.html", "files_of_the_package"),
+    "a page too few": Wrong(PACKED, "*.{py,html}", "*.py", "files_of_the_package"),
+    "sums of nothing": Wrong(RULES, "\tdh_md5sums\n", "", "archive_of_the_package"),
+    "a changelog that isn't packed": Wrong(RULES, "\tdh_installchangelogs --no-trim\n", "", "files_of_the_package"),
+    "what is no program": Wrong(SCRIPT, 'if file.read(4) != b"\\x7fELF":', "if False:", "words_of_the_script"),
+    "a packer that isn't looked for": Wrong(SCRIPT, 'if not shutil.which("dh_builddeb"):', "if False:", "words_of_the_script"),
+    "a program of debhelper's that may fail": Wrong("contrib/debian/one-process.pl", "    exit 1 if $?;\n", "", "words_of_the_script"),
     "a line that the runbook hasn't": Wrong(OPERATING, "`COPY is the journal itself`, ", "", "the_runbook"),
-    "an alarm that the runbook hasn't": Wrong(OPERATING, " (`member_unsent_bytes`) |", " |", "the_runbook"),
+    "an alarm that the runbook hasn't": Wrong(OPERATING, " (`member_unsent_bytes`). ", ". ", "the_runbook"),
     "a fault that the runbook hasn't": Wrong(OPERATING, "| `NEW exists` | `venue-replay` | 1 | nothing was written: give another name |\n",
                                              "", "lines_on_standard_error"),
     "a fault of another program": Wrong(OPERATING, "| `NEW exists` | `venue-replay` |", "| `NEW exists` | `venue-events` |",
@@ -135,7 +146,7 @@ WRONG = {
     "a release too few": Wrong(SCRIPT, "heads = list(RELEASE.finditer(text))", "heads = list(RELEASE.finditer(text))[:-1]",
                                "the_changelog"),
     "changes of one line alone": Wrong(SCRIPT, "(.*(?:\\n  .*)*)", "(.*\\.)$", "the_changelog"),
-    "no licence": Wrong(SCRIPT, '    "LICENSE": f"{DOC}/copyright",\n', "", "lint_of_the_package"),
+    "no licence": Wrong(SCRIPT, '    "LICENSE": "debian/copyright",\n', "", "lint_of_the_package"),
     "programs of the repository": Wrong("tools/gikvand/programs.py", "IS_INSTALLED = ROOT ==", "IS_INSTALLED = False and ROOT ==",
                                         "a_venue_of"),
     "a step without a lock": Wrong(STEP, "fcntl.flock(fd, fcntl.LOCK_EX | fcntl.LOCK_NB)", "pass", "step_that"),
@@ -147,7 +158,7 @@ WRONG = {
     "a mount with old bytes": Wrong("docs/FAILOVER.md", "direct-io-mode=enable 0 0", "direct-io-mode=auto 0 0", "options_of_the_mount"),
     "a standby that gives up": Wrong(STANDBY, "Restart=on-failure\n", "", "unit_of_a_standby"),
     "a standby's key that there isn't": Wrong(STANDBY, "RestartSec=500ms", "RestartSeconds=1", "services"),
-    "a script that isn't found": Wrong(SCRIPT, '"../share/gikvand/scripts/gikvand"', '"../share/gikvand/gikvand"', "a_venue_of"),
+    "a script that isn't found": Wrong("contrib/debian/gikvand.links", "gikvand/scripts/gikvand ", "gikvand/gikvand ", "a_venue_of"),
     "a step that doesn't wait": Wrong(STEP, "at + count\n    os.fsync(fd)\n", "at + count\n", "calls_of_the_step"),
     "a step that remembers": Wrong(STEP, "    os.posix_fadvise(fd, 0, 0, os.POSIX_FADV_DONTNEED)\n", "    pass\n", "trusts_no_memory"),
     "a step that forgets the beginning alone": Wrong(STEP, "os.posix_fadvise(fd, 0, 0,", "os.posix_fadvise(fd, 0, PIECE,",
@@ -167,19 +178,21 @@ WRONG = {
                                             "elif not self",
                                             "never_answered"),
     "a fence of the own machine": Wrong(FENCE, "if it.name != own]", "]", "silent_machines"),
-    "a fence of one time": Wrong(FENCE, "                self.heard = None\n                self.is_silent.clear()\n",
-                                 "                return\n", "silent_machines"),
+    "a fence of one time": Wrong(FENCE, "                    self.heard = None\n                    self.is_silent.clear()\n",
+                                 "                    return\n", "silent_machines"),
     "a fence of who is alone": Wrong(FENCE, "any(it.is_heard for it in others) and ", "", "hears_nobody"),
     "clients that are left": Wrong(FENCE, "name not in machines_in(left)", "True", "evictions_that"),
-    "an eviction that is tried once": Wrong(FENCE, "            else:\n                time.sleep(PAUSE)\n", "            else:\n"
-                                            "                return\n", "evictions_that"),
-    "an eviction of who answers": Wrong(FENCE, " or is_silent and not is_silent.is_set():", ":", "answer_again"),
+    "an eviction that is tried once": Wrong(FENCE, "                else:\n                    time.sleep(PAUSE)\n", "                else:\n"
+                                            "                    return\n", "evictions_that"),
+    "an eviction of who answers": Wrong(FENCE, "if is_late or self.is_off():", "if is_late:", "answer_again"),
     "a fence that one wrong answer ends": Wrong(FENCE, "except (OSError, ValueError) as why:", "except OSError as why:", "that_say_no_word"),
-    "a command that hangs": Wrong(FENCE, "if time.monotonic() > end or", "if", "commands_that_hang"),
+    "a command that hangs": Wrong(FENCE, "is_late = time.monotonic() > end", "is_late = False", "commands_that_hang"),
+    "a command that hangs longer and longer": Wrong(FENCE, "min(2 * self.longest, MOST)", "2 * self.longest", "commands_that_hang"),
+    "a command that never has more time": Wrong(FENCE, "min(2 * self.longest, MOST)", "self.longest", "that_begin_late"),
     "a mount that is let go of by any fault": Wrong(FENCE, "if why.errno == errno.ESHUTDOWN:", "if True:", "of_this_machine"),
     "a mount that stays dead": Wrong(FENCE, "errno.ESHUTDOWN:", "errno.ENOTCONN:", "of_this_machine"),
-    "own mounts that nobody looks for": Wrong(FENCE, "if any(evicted(server, own) for _ in range(TRIES)) else 1", "if True else 1",
-                                              "own_mounts"),
+    "own mounts that nobody looks for": Wrong(FENCE, "if evicts_own(server, own) else 1", "if True else 1", "own_mounts"),
+    "own mounts that are evicted once": Wrong(FENCE, "    while time.monotonic() < end:\n", "    if True:\n", "own_mounts"),
     "names of anything": Wrong(FENCE, "if not NAME.fullmatch(self.name):", "if False:", "words_of_the_fence"),
     "any file system": Wrong(FENCE, 'return f"mds.{found[1]}:0" if found else "mds.0"', 'return "mds.0"', "own_mounts"),
     "an old mount that keeps the lock": Wrong(LET_GO, 'if kind == "fuse.ceph":', "if False:", "go_of_cephfs"),
@@ -198,15 +211,23 @@ WRONG = {
     "a lock that others share": Wrong(STEP, "fcntl.LOCK_EX | fcntl.LOCK_NB", "fcntl.LOCK_SH | fcntl.LOCK_NB", "step_beside"),
     "the end of a gigabyte": Wrong(STEP, "start + first\n", "(start + first) % (1 << 30)\n", "step_of_a_long"),
     "a touch that hangs for ever": Wrong(SERVE, 'read -r -t "$LONGEST"', "read -r", "a_touch"),
-    "a user that isn't made": Wrong("contrib/debian/postinst", "    systemd-sysusers venued.conf\n", "", "as_it_is"),
-    "an upgrade that stops": Wrong("contrib/debian/prerm", 'if [ "$1" = remove ] && [ -d', "if [ -d", "as_it_is"),
-    "a purge of the journals": Wrong("contrib/debian/postrm", 'echo "gikvand: the journals in /var/lib/venued stay, and the user venued"',
+    "a user that isn't made": Wrong(RULES, "\tdh_installsysusers\n", "", "as_it_is"),
+    "an upgrade that stops": Wrong("contrib/debian/gikvand.prerm", 'if [ "$1" = remove ] && [ -d', "if [ -d", "as_it_is"),
+    "a purge of the journals": Wrong("contrib/debian/gikvand.postrm",
+                                     'echo "gikvand: the journals in /var/lib/venued stay, and the user venued"',
                                      "rm -rf /var/lib/venued", "behind_it"),
-    "an older library": Wrong(SCRIPT, "max(versions)", "min(versions)", "versions_of_the_library"),
-    "a package in place": Wrong(SCRIPT, 'make(name, contents(os.path.join(folder, "made.deb")), 0o666)',
-                                'shutil.copyfile(os.path.join(folder, "made.deb"), name)', "calls_of_the_package"),
-    "a Python of the path": Wrong(SCRIPT, 'SYSTEMS_PYTHON + contents("scripts/gikvand").partition(b"\\n")[2], PROGRAM',
-                                  'contents("scripts/gikvand"), PROGRAM', "python_of"),
+    "an older library": Wrong(RULES, "-v$(VERSION)", "-v$(VERSION) '-Vshlibs:Depends=libc6 (>= 2.2.5)'", "needs_of_the_package"),
+    "programs without their libraries": Wrong(RULES, "\tdh_shlibdeps\n", "", "needs_of_the_package"),
+    "a package in place": Wrong(SCRIPT, "make(names[-1], file.read(), 0o666)", "shutil.copyfile(path, names[-1])", "calls_of_the_package"),
+    "a Python of the path": Wrong(RULES, ",/usr/bin/python3,", ",&,", "python_of"),
+    "a port for everybody": Wrong("contrib/front/members.nft",
+                                  "        tcp dport 9001-9002 fib daddr type local ct state new reject with tcp reset\n", "",
+                                  "of_the_firewall"),
+    "a member at another's port": Wrong("contrib/front/members.nft", 'tcp dport 9002 meta skuid "member-c2"',
+                                        'tcp dport 9001-9002 meta skuid "member-c2"',
+                                        "of_the_firewall"),
+    "a tunnel to every port": Wrong("contrib/front/sshd.conf", "    PermitOpen 127.0.0.1:9002\n", "", "test_users"),
+    "a tunnel with a shell": Wrong("contrib/front/sshd.conf", "    PermitTTY no\n", "", "test_users"),
     "a release that isn't one": Wrong(SCRIPT, '"+unreleased" * has_more(found)', '""', "versions_of_the_package"),
     "a form of the edge too few": Wrong(EDGE_PAGE, ".Op Fl -check\n", "", "edge_usage"),
     "a word of the edge told otherwise": Wrong(EDGE_PAGE, "looks at the settings, and serves nobody", "serves all", "edge_words"),
@@ -222,25 +243,28 @@ WRONG = {
                                          "StartDay=Monday\nEndDay=Saturday", "edge_example_hours"),
     "a second member at the first one's port": Wrong(EDGE_SETTINGS, "; s/9801/9802/'", "'", "edge_second_member"),
     "a second member by the first one's name": Wrong(EDGE_SETTINGS, "s/DESK-A/DESK-B/; ", "", "edge_second_member"),
-    "links as they are in the sources": Wrong(SCRIPT, 'LINK.sub(led, data.decode()).encode() if name.endswith(".md") else data', "data",
-                                              "edge_links"),
-    "links from the root": Wrong(SCRIPT, "os.path.relpath(LED_TO[target], os.path.dirname(place))", "LED_TO[target]", "edge_links"),
-    "pages that nothing has": Wrong(SCRIPT, '    "docs/MEASURED.md": f"{DOC}/MEASURED.md",\n', "", "edge_links"),
+    "links as they are in the sources": Wrong(SCRIPT, 'LINK.sub(led, contents(name)) if name.endswith(".md") else contents(name)',
+                                              "contents(name)", "edge_links"),
+    "links from the root": Wrong(SCRIPT, "os.path.relpath(places[target], os.path.dirname(place))", "places[target]", "edge_links"),
+    "pages that nothing has": Wrong("contrib/debian/gikvand.docs", "docs/MEASURED.md\n", "", "edge_links"),
     "an example of a stunnel for anybody": Wrong("edge/stunnel/member.conf", "verifyPeer = yes", "verifyPeer = no", "edge_example"),
-    "an edge without its dictionary": Wrong(SCRIPT, '    "edge/FIX44-edge.xml": f"{EDGE_SHARE}/FIX44-edge.xml",\n', "", "edge_example"),
-    "several venues that stay closed": Wrong(SCRIPT, 'for it in ("venued", "venued@")]', 'for it in ("venued",)]', "files_of_the_edge"),
-    "a page of the edge too few": Wrong(SCRIPT, 'EDGE_PAGES = ("gikvand-edge.8", "gikvand-edge.cfg.5")',
-                                        'EDGE_PAGES = ("gikvand-edge.8",)', "files_of_the_edge"),
-    "the venue in the place of the edge": Wrong(SCRIPT, "OF_THE_EDGE if given.edge else", "VENUE if given.edge else", "files_of_the_edge"),
-    "an edge of any release": Wrong(EDGE_CONTROL, "gikvand (= @VERSION@)", "gikvand", "needs_of_the_edge"),
-    "a library too few": Wrong(SCRIPT, "for it in sorted(names))", "for it in sorted(names)[1:])", "needs_of_the_edge"),
-    "a release of the edge alone": Wrong(EDGE_CONTROL, "Source: gikvand\n", "", "changelog_of_the_edge"),
-    "times of now, of the edge": Wrong(SCRIPT, "        tree.settle(time)\n", "", "same_bytes_of_the_edge"),
+    "an edge without its dictionary": Wrong(EDGE_PACKED, "edge/FIX44-edge.xml usr/share/gikvand-edge\n", "", "edge_example"),
+    "several venues that stay closed": Wrong(EDGE_PACKED, "named/gikvand-edge.conf usr/lib/systemd/system/venued@.service.d\n", "",
+                                             "files_of_the_edge"),
+    "a page of the edge too few": Wrong("contrib/debian/gikvand-edge.manpages", "man/gikvand-edge.cfg.5\n", "", "files_of_the_edge"),
+    "pages that are packed": Wrong(RULES, "dh_compress --exclude=.md --exclude=.svg --exclude=.xml", "dh_compress", "files_of_the_edge"),
+    "an edge without a folder of settings": Wrong(RULES, "\tdh_installdirs\n", "", "files_of_the_edge"),
+    "the venue in the place of the edge": Wrong(SCRIPT, "made(packages, given", 'made(["gikvand"], given', "archive_of_the_edge"),
+    "an edge of any release": Wrong(CONTROL, "gikvand (= ${binary:Version}), ${shlibs:Depends}, ${misc:Depends}\nRecommends",
+                                    "gikvand, ${shlibs:Depends}, ${misc:Depends}\nRecommends", "needs_of_the_edge"),
+    "a library too few": Wrong(RULES, "dh_shlibdeps\n", "dh_shlibdeps -- -xlibsqlite3-0\n", "needs_of_the_edge"),
+    "a release of the edge alone": Wrong(RULES, "dh_gencontrol --", "dh_gencontrol -- -DSource=gikvand-edge", "changelog_of_the_edge"),
+    "times of now, of the edge": Wrong(SCRIPT, *OF_ITS_TIME, "same_bytes_of_the_edge"),
     "an edge that isn't looked for": Wrong(SCRIPT, "    if not os.access(program, os.X_OK):\n", "    if False:\n", "unbuilt_edge"),
     "settings without an end": Wrong(EDGE_LIST, '*items, ".El", ""', '*items, ""', "lint_of_the_edge_pages"),
     "sentences in one line": Wrong(EDGE_LIST, "SENTENCE.split(words.strip())", "[words.strip()] if words.strip() else []",
                                    "lint_of_the_edge_pages"),
-    "an edge without a licence": Wrong(SCRIPT, '    "LICENSE": f"{EDGE_DOC}/copyright",\n', "", "lint_of_the_edge_package"),
+    "an edge without a licence": Wrong(SCRIPT, '    "LICENSE": "debian/copyright",\n', "", "lint_of_the_edge_package"),
     "an edge with rights of root": Wrong(EDGE_SERVICE, "CapabilityBoundingSet=\n", "", "services_of_the_edge"),
     "a venue's key that there isn't": Wrong(DROP_IN, "\nUMask=0027", "\nUMasks=0027", "services_of_the_edge"),
     "an edge's user who may log in": Wrong(EDGE_USERS, "/var/lib/gikvand-edge/C3\n", "/var/lib/gikvand-edge/C3 /bin/bash\n",
@@ -248,17 +272,19 @@ WRONG = {
     "a journal of before that stays closed": Wrong(DROP_IN, "chmod g+r ", "chmod u+r ", "edge_reads"),
     "a journal that edges may write": Wrong(DROP_IN, "chmod g+r ", "chmod g+rw ", "edge_reads"),
     "a folder that stays closed": Wrong(DROP_IN, "\nStateDirectoryMode=0750", "", "edge_reads"),
-    "edges without users": Wrong(EDGE_POSTINST, "    systemd-sysusers gikvand-edge.conf\n", "", "edge_as_it_is_installed"),
+    "a page to begin with that leads nowhere": Wrong("contrib/debian/gikvand.README.Debian", '"First start" in', '"The first start" in',
+                                                     "page_to_begin_with"),
+    "edges without users": Wrong(RULES, "\tdh_installsysusers\n", "", "edge_as_it_is_installed"),
     "an upgrade that stops edges": Wrong(EDGE_PRERM, 'if [ "$1" = remove ] && [ -d', "if [ -d", "edge_as_it_is_removed"),
     "edges that run on without their program": Wrong(EDGE_PRERM, "    deb-systemd-invoke stop 'gikvand-edge@*.service' >/dev/null\n",
                                                      "    true\n", "edge_as_it_is_removed"),
-    "a purge of the records": Wrong(EDGE_POSTRM, 'echo "gikvand-edge: the records in /var/lib/gikvand-edge stay, the settings, and the '
+    "a purge of the records": Wrong("contrib/debian/gikvand-edge.postrm", 'echo "gikvand-edge: the records in /var/lib/gikvand-edge stay, the settings, and the '
                                     'users gikvand-edge-C1 to C8"', "rm -rf /var/lib/gikvand-edge", "edge_as_it_is_removed"),
     "a form of the edge's numbers too few": Wrong(EDGE_PAGE, ".Nm\n.Cm numbers\n.Ar Ck OUT IN\n.Ar SETTINGS ...\n", "", "edge_usage"),
     "numbers of a session told otherwise": Wrong(EDGE_PAGE, "Shows the next numbers of the member's session", "Shows them", "edge_switch"),
     "numbers that aren't completed": Wrong(COMPLETION, "cancel halt status numbers", "cancel halt status", "edge_words_completed"),
     "members that aren't completed": Wrong(COMPLETION, '"$begun" all "${_gikvand_members[@]}"', '"$begun" all', "edge_words_completed"),
-    "a word of the edge that isn't completed": Wrong(COMPLETION, '" --check --version"', '" --check"', "edge_words_completed"),
+    "a word of the edge that isn't completed": Wrong(COMPLETION, '" --check --help --version"', '" --check --help"', "edge_words_completed"),
     "files where members stand": Wrong(COMPLETION, '        1:--member:*) _gikvand_of "$begun" "${_gikvand_members[@]}" ;;\n', "",
                                        "edge_words_completed"),
 }

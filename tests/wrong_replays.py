@@ -15,6 +15,7 @@ from oracle.snapshot_rules import BadSnapshot
 # That of lengths and that of too many commands aren't among them: no journal has such a snapshot.
 CONDITIONS = ("orders", "outputs", "greatest name", "symbol", "side", "client", "name", "price", "total", "filled", "paid",
               "number", "stamp", "name above the greatest", "order of the list", "name twice")
+WITHOUT = "a snapshot whatever its "  # So begins the name of the wrong rule without one of them.
 
 
 class Wrong(NamedTuple):
@@ -192,7 +193,7 @@ right_check_list, right_has_shape = snapshot_rules.check_list, journals.has_shap
 right_snapshot, right_turn_of = snapshot_rules.snapshot, book_rules.turn_of
 
 WRONG = {
-    **{f"a snapshot whatever its {it}": without(it) for it in CONDITIONS},
+    **{f"{WITHOUT}{it}": without(it) for it in CONDITIONS},
     "a snapshot without the names of members without orders": Wrong(snapshot_rules, "snapshot", names_of_orders_alone),
     "a snapshot in the order of coming": Wrong(Book, "listed", in_order_of_coming),
     "sells before buys": Wrong(Book, "listed", sells_first),

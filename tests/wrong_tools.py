@@ -28,12 +28,17 @@ class Wrong(NamedTuple):
             return bool(chromium.program())
         return self.tests not in BY_CC or bool(shutil.which("cc"))
 
+    def file(self) -> str:
+        """Which file is another one, in the folder of the tools."""
+        return f"gikvand/{self.module if '.' in self.module else f'{self.module}.py'}"
+
     def put(self, tools: str, folder: str) -> str:
-        """Makes a copy of the tools in this folder that is wrong so, and gives its path."""
-        checks.copy_there(os.path.dirname(tools), ("tools", "contrib/standby"), folder)
-        path = os.path.join(folder, "tools")
-        name = os.path.join(path, "gikvand", self.module if "." in self.module else f"{self.module}.py")
-        checks.change(name, self.old, self.new)
+        """Makes tools in this folder that are wrong so, and gives their path."""
+        name, path = self.file(), os.path.join(folder, "tools")
+        os.symlink(os.path.join(os.path.dirname(tools), "contrib"), os.path.join(folder, "contrib"))
+        os.mkdir(path)
+        checks.link_there(tools, (name,), path)
+        checks.change(os.path.join(path, name), self.old, self.new)
         return path
 
 
@@ -128,10 +133,18 @@ WRONG = {
     "a copy without its symbols": Wrong("follow", "            keep_symbols(given.journal, given.copy)\n", "", "followed_once"),
     "a folder that may be one": Wrong("why", "elif os.path.isdir(path):", "elif False:", "whys_of_names"),
     "any file in the way": Wrong("why", "os.path.getsize(new) > len(empty())", "False", "whys_of_names"),
+    "a journal that has gone": Wrong("why", "    if os.path.exists(kept := symbols.place_of(path)):\n", "    if not (kept := symbols.place_of(path)):\n", "whys_of_names"),
     "no lock": Wrong("why", "        yield from of_the_lock(path)\n", "", "whys_of_a_lock"),
+    "rights for whoever asks": Wrong("why", "[*of_who_asks(path)] or ", "", "whys_of_rights"),
     "any rights": Wrong("why", "if why := refusal(path, os.O_RDWR):", "if False:", "whys_of_rights"),
     "a folder that isn't read": Wrong("why", "if why := refusal(folder_of(path), os.O_RDONLY):", "if False:", "whys_of_rights"),
-    "a full disk": Wrong("why", "elif room < A_SNAPSHOT:", "elif False:", "whys_of_a_machine"),
+    "a full disk": Wrong("why", "elif room < A_SNAPSHOT:", "elif False:", "whys_of_a_full_disk"),
+    "a snapshot that isn't due": Wrong("why", " and reader.count - newest >= DUE", "", "whys_of_a_full_disk"),
+    "a snapshot of an old journal": Wrong("why", "reader.version >= WITH_SNAPSHOTS and ", "", "whys_of_a_full_disk"),
+    "a snapshot that is due later": Wrong("why", "newest if block.snapshot is None else block.before", "0", "whys_of_a_full_disk"),
+    "no room for an empty journal": Wrong("why", "if room < needed:", "if False:", "whys_of_a_full_disk"),
+    "a venue that serves as a fault": Wrong("why", 'Cause("in use", ', 'device(', "whys_of_a_lock"),
+    "findings without a cause": Wrong("verify", '            print(f"    {mends.LOGGED}")\n', "            pass\n", "wrong_logs"),
     "too few open files": Wrong("why", "most < FEWEST_FILES", "most < 7", "whys_of_a_machine"),
     "a device that reads": Wrong("why", "        except OSError as why:\n            yield device(",
                                  "        except OSError as why:\n            return\n            yield device(",
@@ -270,14 +283,26 @@ WRONG = {
     "no words without docstrings": Wrong("words", "    if module.__doc__:\n        return module.__doc__\n",
                                          "    return module.__doc__\n", "words_without"),
     "numbers of before as lost": Wrong("edge", "if self.first and at >= self.first", "if self.first", "probes_of"),
-    "the last of several files": Wrong("edge", "Edge(*itertools.chain.from_iterable(map(files_of, paths)))",
-                                       "Edge(*list(itertools.chain.from_iterable(map(files_of, paths)))[-1:])", "several_files"),
+    "the last of several files": Wrong("edge", "Edge(*itertools.chain.from_iterable(map(files_of, paths)), journal=journal)",
+                                       "Edge(*list(itertools.chain.from_iterable(map(files_of, paths)))[-1:], journal=journal)", "several_files"),
     "a file in the place of another": Wrong("edge", "        if other := self.sessions.get(name):\n",
                                             "        if False and (other := self.sessions.get(name)):\n", "several_files"),
-    "files of other venues": Wrong("edge", 'if it.need("Symbols").split() != first.need("Symbols").split():', "if False:",
+    "files of other venues": Wrong("edge", "if it.need(symbols).split() != first.need(symbols).split():", "if False:",
                                    "several_files"),
     "all files of a folder": Wrong("edge", 'if it.endswith(".cfg"))', ")", "several_files"),
     "another step": Wrong("edge", "str(steps * self.mantissa)", "str(steps)", "steps_of"),
+    "reports of all venues as those of one": Wrong("edge", "        if exec_id or order_id != \"NONE\":\n            return ",
+                                                   "        if exec_id or order_id != \"NONE\":\n            return True or ", "several_venues"),
+    "reports of before as no venue's": Wrong("edge", " or not member.letter and (exec_id or order_id).isdecimal()", "", "several_venues"),
+    "reports of before as each venue's": Wrong("edge", " or not member.letter and (exec_id", " or (exec_id", "several_venues"),
+    "refused cancels of all venues": Wrong("edge", '        return member.has_order(message.get("41", ""))\n', "        return True\n", "several_venues"),
+    "refused cancels of a number at each venue": Wrong("edge", " or by_number is not None and by_number[1] == self.letter", " or by_number is not None",
+                                                       "several_venues"),
+    "names of desks as the record has them": Wrong("edge", 'OF_DESK.sub(r"\\2", it)', "it", "several_venues"),
+    "a log of before without letters": Wrong("logs", "as_compared(edge.with_letter(told))", "as_compared(told)", "several_venues"),
+    "places without letters alone": Wrong("logs", 're.compile(r"[A-Z]?(\\d+)")', 're.compile(r"(\\d+)")', "several_venues"),
+    "orders for another venue": Wrong("edge", ' and (not self.letter or report["55"] in self.steps)', "", "several_venues"),
+    "trades without letters": Wrong("trades", "behind.of_venue(str(row[it]))", "str(row[it])", "several_venues"),
     "reports to probes": Wrong("edge", "!= PROBE", "!= 0", "probes_of"),
     "ends of days as cancels": Wrong("edge", 'report.get("150") == CANCELLED and', "False and", "ends_of_days"),
     "each cancel as the end of a day": Wrong("edge", " and self.is_of_an_end(number, report):\n", ":\n", "ends_of_days"),

@@ -8,7 +8,7 @@ import shutil
 import stat
 import subprocess
 import tempfile
-from collections.abc import Iterator
+from collections.abc import Callable
 from unittest import mock
 
 import pytest
@@ -17,7 +17,7 @@ import test_debian
 from checks import EDGE, ROOT, can_have_places, contents, is_edge_built, put_text, ran, text_of
 from gikvand.words import sure
 from mdoc import Page
-from packed import SCRIPT, Packed
+from packed import EDGES, SCRIPT, entries, expect_libraries, expect_sums, packing
 from script_modules import loaded
 from test_completion import completed
 from test_pages import PAGES, plain
@@ -26,7 +26,7 @@ pytestmark = [pytest.mark.quick, pytest.mark.edge]
 
 COMMANDS, SETTINGS = "gikvand-edge.8", "gikvand-edge.cfg.5"
 WORDS = "| words | what they do |"
-DEBIAN, DROP_IN = os.path.join(ROOT, "contrib/edge/debian"), "contrib/edge/venued-edge.conf"
+DROP_IN = "contrib/edge/venued-edge.conf"
 MEMBERS = [f"C{number}" for number in range(1, 9)]
 UNITS, DOC = "usr/lib/systemd/system", "usr/share/doc/gikvand-edge"
 DICTIONARY, EXAMPLE = "usr/share/gikvand-edge/FIX44-edge.xml", "contrib/edge/examples/C1.cfg"
@@ -35,12 +35,13 @@ LINK = re.compile(r"\[([^\]]*)\]\(([^)#:\s]*)(?:#[^)]*)?\)")
 EXPOSED = 15  # The greatest exposure of the service that is taken, in tenths, as systemd-analyze reckons it.
 NO_FINDING = re.compile(r".*STYLE: referenced manual not found: Xr ({})\b.*".format(
     "|".join(re.escape(" ".join(it.rsplit(".", 1))) for it in (*PAGES, COMMANDS, SETTINGS))))
-packing = pytest.mark.debian("dpkg-deb", "strip")
 of_the_edge = pytest.mark.skipif(not is_edge_built(), reason=f"{os.path.relpath(EDGE)} isn't built (edge/setup builds it)")
+made, unpacked = EDGES.made, EDGES.unpacked
 
 
-PACKED = Packed("--edge")
-made, unpacked = PACKED.made, PACKED.unpacked
+def of_the_package(test: Callable[..., None]) -> Callable[..., None]:
+    """Marks a test of the package: it takes the edge and debhelper, and one process makes the package for all of them."""
+    return of_the_edge(packing(pytest.mark.xdist_group("edge_package")(test)))
 
 
 def older_and_newer() -> tuple[str, ...]:
@@ -53,20 +54,9 @@ def older_and_newer() -> tuple[str, ...]:
     return made(), out.strip()
 
 
-@pytest.fixture(scope="module", autouse=True)
-def removed() -> Iterator[None]:
-    """Removes the package at the end."""
-    yield
-    PACKED.remove()
-
-
 def packed_page(name: str) -> str:
     """The text of a page as the package has it."""
-    with tempfile.TemporaryDirectory(prefix="filled-") as folder:
-        it = loaded("scripts/package")
-        with mock.patch.object(it.Tree, "put_stripped", lambda *_: None):
-            it.fill_edge(it.Tree(folder), it.releases(), "1", 0)
-        return ran("gzip", "-dc", os.path.join(folder, f"usr/share/man/man{name[-1]}/{name}.gz"))[1]
+    return loaded("scripts/package").man_page(name)
 
 
 @functools.cache
@@ -84,10 +74,11 @@ def rows_of(head: str, behind: str = "") -> list[list[str]]:
 def test_edge_usage() -> None:
     """The forms of the command line are those that the program prints, and it tells the project's version."""
     lines = "\n       ".join(page(COMMANDS).synopsis())
-    for status, words in ((1, ()), (1, ("--help",)), (1, ("--version", "x")), (1, ("--check",)), (1, ("--all", "--version")), (1, ("x", "y")),
+    for status, words in ((1, ()), (1, ("--help", "x")), (1, ("--version", "x")), (1, ("--check",)), (1, ("--all", "--version")), (1, ("x", "y")),
                           (2, ("stop",)), (2, ("halt", "ABC")), (2, ("numbers", "C1", "5", "edge.cfg"))):
         assert (words, *ran(EDGE, *words)) == (words, status, "", f"usage: {lines}\n")
     assert f"usage: {page(COMMANDS).synopsis()[0]} ..." in page(COMMANDS).items("DIAGNOSTICS")
+    assert ran(EDGE, "--help")[1].startswith(f"usage: {lines}\n\n")
     assert ran(EDGE, "--version") == (0, f"gikvand-edge {text_of('VERSION')}", "")
     with open("/dev/full", "w", encoding="ascii") as full:
         assert subprocess.run([EDGE, "--version"], stdout=full).returncode == 1
@@ -179,8 +170,7 @@ def put_example(folder: str, **others: str) -> str:
     return put_text(os.path.join(folder, "C1.cfg"), text)
 
 
-@of_the_edge
-@packing
+@of_the_package
 def test_edge_example() -> None:
     """The example of a member's settings, with that of its stunnel, is right as it stands; the dictionary is the installed one."""
     with tempfile.TemporaryDirectory(prefix="example-") as folder:
@@ -258,14 +248,15 @@ def without_links(text: str) -> str:
 
 
 def test_edge_links_of_the_pages() -> None:
-    """Each link of a page that the two packages install leads to a file of theirs, and each page has the words that it has here."""
+    """Each link of a page that the packages install leads to a file of theirs, and each page has the words that it has here."""
     it = loaded("scripts/package")
     with tempfile.TemporaryDirectory(prefix="pages-") as folder:
-        with mock.patch.object(it.Tree, "put_stripped", lambda *_: None):
-            for fill in (it.fill, it.fill_edge):
-                fill(it.Tree(folder), it.releases(), "1", 0)
-        pages = {place: name for name, place in {**it.FILES, **it.EDGE_FILES}.items() if name.endswith(".md")}
-        assert {os.path.basename(place) for place in pages} >= {"EDGE.md", "OPERATING.md", "MEASURED.md", "FAILOVER.md"}
+        for name, place in it.pages().items():
+            put_text(os.path.join(folder, place), it.installed(name, place))
+        for place in ("changelog.gz", *(f"images/{os.path.basename(picture)}" for picture in it.PICTURES)):
+            put_text(os.path.join(folder, "usr/share/doc/gikvand", place), "")
+        pages = {place: name for name, place in it.pages().items() if name.endswith(".md")}
+        assert {os.path.basename(place) for place in pages} >= {"EDGE.md", "OPERATING.md", "MEASURED.md", "FAILOVER.md", "FEED.md"}
         count = 0
         for place, name in pages.items():
             text = contents(os.path.join(folder, place)).decode()
@@ -278,61 +269,53 @@ def test_edge_links_of_the_pages() -> None:
             assert (link, link in contents(os.path.join(folder, DOC, "EDGE.md")).decode()) == (link, True)
 
 
-@of_the_edge
-@packing
+@of_the_package
 def test_files_of_the_edge_package() -> None:
-    """What is in it, whose it is, and with which rights; its version, its sums, and that its program is stripped."""
-    _, out, _ = ran("dpkg-deb", "-c", made())
-    lines = [line.split(maxsplit=5) for line in out.splitlines()]
-    assert {(line[1], line[0]) for line in lines} == {("root/root", it) for it in ("drwxr-xr-x", "-rwxr-xr-x", "-rw-r--r--", "lrwxrwxrwx")}
-    assert [line[5] for line in lines if line[0] == "-rwxr-xr-x"] == ["./usr/bin/gikvand-edge"]
-    found = {line[5].split(" -> ")[0][2:] for line in lines if line[0][0] != "d"}
-    assert found == {"usr/bin/gikvand-edge", f"{UNITS}/gikvand-edge@.service", "usr/lib/sysusers.d/gikvand-edge.conf",
+    """What is in it, and with which rights; and that its program is stripped."""
+    found = entries(unpacked())
+    assert set(found.values()) == {"drwxr-xr-x", "-rwxr-xr-x", "-rw-r--r--", "lrwxrwxrwx"}
+    assert [it for it in found if found[it] == "-rwxr-xr-x"] == ["usr/bin/gikvand-edge"]
+    files = {it for it in found if found[it][0] != "d"}
+    assert files == {"usr/bin/gikvand-edge", f"{UNITS}/gikvand-edge@.service", "usr/lib/sysusers.d/gikvand-edge.conf",
                      *(f"{UNITS}/{it}.service.d/gikvand-edge.conf" for it in ("venued", "venued@")), DICTIONARY,
                      *(f"usr/share/man/man{it[-1]}/{it}.gz" for it in (COMMANDS, SETTINGS)),
                      "usr/share/bash-completion/completions/gikvand-edge", "usr/share/doc/gikvand/EDGE.md",
-                     *(f"{DOC}/{it}" for it in ("EDGE.md", "copyright", "changelog.gz", "examples/C1.cfg", "examples/gikvand-C1.conf")),
-                     *(f"{DOC}/examples/{it}" for it in ("member.py", "member.go", "Member.java", "member.cpp", "quickfixj.cfg"))}
-    assert "./etc/gikvand-edge/" in {line[5] for line in lines}
+                     *(f"{DOC}/{it}" for it in ("EDGE.md", "MARKET.md", "copyright", "changelog.gz", "examples/C1.cfg", "examples/two-venues.cfg",
+                                                "examples/gikvand-C1.conf")),
+                     *(f"{DOC}/examples/{it}" for it in ("member.py", "member.go", "Member.java", "member.cpp", "quickfix.cfg"))}
+    assert found["etc/gikvand-edge"] == "drwxr-xr-x"
     for name, place in (("edge/FIX44-edge.xml", DICTIONARY), (EXAMPLE, f"{DOC}/examples/C1.cfg"), ("LICENSE", f"{DOC}/copyright")):
         assert (name, contents(os.path.join(unpacked(), place)) == contents(os.path.join(ROOT, name))) == (name, True)
-    version = field("Version")
-    assert version.split("+")[0] == text_of("VERSION").strip()
-    assert os.path.basename(made()) == f"gikvand-edge_{version}_amd64.deb"
     program = os.path.join(unpacked(), "usr/bin/gikvand-edge")
     assert ".symtab" not in ran("readelf", "-S", program)[1]
     assert ran(program, "--version") == (0, f"gikvand-edge {text_of('VERSION')}", "")
-    sums = ran("bash", "-c", 'dpkg-deb --ctrl-tarfile "$0" | tar -xO ./md5sums', made())[1]
-    assert ran("md5sum", "--check", "--quiet", given=sums, folder=unpacked()) == (0, "", "")
-    assert len(sums.splitlines()) == sum(line[0][0] == "-" for line in lines)
+    for name in (COMMANDS, SETTINGS):
+        assert ran("gzip", "-dc", os.path.join(unpacked(), f"usr/share/man/man{name[-1]}/{name}.gz"))[1] == packed_page(name)
+
+
+@of_the_package
+def test_archive_of_the_edge_package() -> None:
+    """Its name and version, whose its files are, and its sums."""
+    version = field("Version")
+    assert version.split("+")[0] == text_of("VERSION").strip()
+    assert os.path.basename(made()) == f"gikvand-edge_{version}_amd64.deb"
+    expect_sums(EDGES)
 
 
 def field(name: str) -> str:
     return ran("dpkg-deb", "-f", made(), name)[1].strip()
 
 
-@of_the_edge
-@packing
+@of_the_package
 def test_needs_of_the_edge_package() -> None:
     """It comes with the venue's package of its version, and each library that its program is linked with has its package."""
-    needed = [it.strip() for it in field("Depends").split(",")]
-    assert needed[0] == f"gikvand (= {field('Version')})"
+    venue, *libraries, users = EDGES.needed()
+    assert (venue, users) == (f"gikvand (= {field('Version')})", "systemd | systemd-standalone-sysusers | systemd-sysusers")
     assert field("Recommends") == "stunnel4"
-    owners = set()
-    for path in re.findall(r"=> (/\S+)", ran("ldd", EDGE)[1]):
-        linked = re.search(rf"NEEDED +{re.escape(os.path.basename(path))}$", ran("objdump", "-p", EDGE)[1], re.MULTILINE)
-        status, out, _ = ran("dpkg", "-S", path)
-        out = ran("dpkg", "-S", f"/usr{path}")[1] if status else out  # (as a system has it whose /lib is a link)
-        owners |= {out.split(":")[0]} if linked else set()
-    assert {it.split()[0] for it in needed[1:-1]} == owners
-    libc = next(sure(re.fullmatch(r"libc6 \(>= (.*)\)", it))[1] for it in needed if it.startswith("libc6"))
-    for it in re.findall(r"GLIBC_(\d[\d.]*)", ran("readelf", "--version-info", EDGE)[1]):
-        assert (it, ran("dpkg", "--compare-versions", it, "le", libc)[0]) == (it, 0)
-    assert f"GLIBC_{libc}" in ran("readelf", "--version-info", EDGE)[1]
+    expect_libraries(libraries, EDGE)
 
 
-@of_the_edge
-@packing
+@of_the_package
 def test_changelog_of_the_edge_package() -> None:
     """It is the project's: the package's version stands first."""
     assert ran("gzip", "-dc", os.path.join(unpacked(), f"{DOC}/changelog.gz"))[1].splitlines()[0] == (
@@ -340,17 +323,16 @@ def test_changelog_of_the_edge_package() -> None:
     assert field("Source") == "gikvand"
 
 
-@of_the_edge
-@packing
+@of_the_package
 def test_same_bytes_of_the_edge_package() -> None:
     """The same tree and program give the same package, whatever umask, folder and time zone are there."""
     with tempfile.TemporaryDirectory(prefix="again-") as folder:
         words = 'umask 077; cd /; exec "$0" --edge --output "$1"'
         assert ran("bash", "-c", words, SCRIPT, folder, TZ="Asia/Tokyo", LC_ALL="C", GIKVAND_EDGE=EDGE)[::2] == (0, "")
         assert contents(os.path.join(folder, os.path.basename(made()))) == contents(made())
-        status, out, err = ran(SCRIPT, "--edge", "--output", folder, "--version", "99.1", SOURCE_DATE_EPOCH="1800000000")
+        status, out, err = ran(SCRIPT, "--edge", "--output", folder, "--version", "99.1", SOURCE_DATE_EPOCH="4000000000")
         assert (status, os.path.basename(out.strip()), err) == (0, "gikvand-edge_99.1_amd64.deb", "")
-        assert "2027-01-15" in ran("dpkg-deb", "-c", out.strip(), TZ="UTC")[1]
+        assert {line.split()[3] for line in ran("dpkg-deb", "-c", out.strip(), TZ="UTC")[1].splitlines()} == {"2096-10-02"}
         assert ran("dpkg-deb", "-f", out.strip(), "Depends")[1].split(",")[0] == "gikvand (= 99.1)"
 
 
@@ -370,16 +352,14 @@ def test_lint_of_the_edge_pages() -> None:
         assert (name, [line for line in out.splitlines() if not NO_FINDING.fullmatch(line)], err) == (name, [], "")
 
 
-@of_the_edge
-@packing
+@of_the_package
 @pytest.mark.debian("lintian")
 def test_lint_of_the_edge_package() -> None:
     status, out, _ = ran("lintian", "--fail-on", "error,warning", made(), LC_ALL="C.UTF-8")
     assert (status, out) == (0, "")
 
 
-@of_the_edge
-@packing
+@of_the_package
 @pytest.mark.debian("systemd-analyze")
 def test_services_of_the_edge_package() -> None:
     """systemd takes its service, and the venue's with what it changes of these; hardly anything is open to it."""
@@ -430,18 +410,20 @@ def asked_by(script: str, *words: str, by_systemd: bool = True) -> list[str]:
     """What a script of this package calls with these words. Records in /var/lib/gikvand-edge have to be there behind it."""
     places = test_debian.PLACES.replace("/var/lib/venued", "/var/lib/gikvand-edge")
     with mock.patch.object(test_debian, "PLACES", places):
-        return test_debian.asked_by(os.path.join(DEBIAN, script), *words, by_systemd=by_systemd)
+        return test_debian.asked_by(script, *words, by_systemd=by_systemd, packed=EDGES)
 
 
+@of_the_package
 def test_edge_as_it_is_installed() -> None:
     """The users are made and systemd looks again; nothing is started, and no venue is touched."""
     if can_have_places():
         made_users = ["systemd-sysusers gikvand-edge.conf"]
         assert asked_by("postinst", "configure", "") == [*made_users, "systemctl --system daemon-reload"]
         assert asked_by("postinst", "configure", "0.3.0", by_systemd=False) == made_users
-        assert asked_by("postinst", "abort-upgrade", "0.3.0") == []
+        assert asked_by("postinst", "abort-upgrade", "0.3.0") == made_users
 
 
+@of_the_package
 def test_edge_as_it_is_removed() -> None:
     """An upgrade leaves the edges as they run, before a removal they are stopped in order, and behind a purge the records stay."""
     if can_have_places():

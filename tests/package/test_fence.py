@@ -1,6 +1,7 @@
 """Tests of contrib/standby/fence-ceph, which evicts machines from CephFS, on a machine of its own network, mounts and processes, whose
 ceph is a script that notes what it is asked; and of what dev/drill_ceph.py makes of Ceph's words. dev/failover-drill --store cephfs has
 both on Ceph's own programs."""
+import contextlib
 import json
 import os
 import re
@@ -18,7 +19,7 @@ import drill_ceph
 from checks import ROOT, text_of
 from gikvand.words import sure
 from test_standby import STANDBY, put, stub
-from venues import Trouble, await_that
+from venues import Lines, Trouble, await_that
 
 pytestmark = pytest.mark.quick
 for_root = pytest.mark.skipif(os.geteuid() != 0 or not shutil.which("ip"), reason="it is for root, who may have a network, by ip")
@@ -36,9 +37,11 @@ for it in 1 2 3; do ip address add 10.9.0.$it/32 dev lo; done
 set +e
 echo up
 while read -r line; do eval "$line"; echo "$?"; done"""
+LONG = 120  # Seconds for a line of the machine's shell.
 # What is asked for, and how it is answered, as long as these files are there.
 CEPH = """echo "$*" >>"{folder}/asked"
 if [ -e "{folder}/hangs" ]; then echo $$ >"{folder}/hung"; exec sleep 600; fi
+[ ! -e "{folder}/late" ] || sleep "$(cat "{folder}/late")"
 [ ! -e "{folder}/refuses" ] || exit 1
 case "$*" in *"session ls"*) cat "{folder}/left" ;; esac"""
 
@@ -58,14 +61,29 @@ class Network:
         environment = {**os.environ, **stub(folder, "ceph", CEPH.format(folder=folder))}
         pipe = subprocess.PIPE
         self.machine = subprocess.Popen([*MACHINE, BOOT, "boot", folder], stdin=pipe, stdout=pipe, text=True, env=environment)
-        assert sure(self.machine.stdout).readline() == "up\n"
+        self.said = Lines(sure(self.machine.stdout))
+        assert self.answer("its boot") == "up"
+
+    def answer(self, what: str) -> str:
+        """The next line that the machine says, behind this."""
+        try:
+            return self.said.next(LONG) or "nothing more"
+        except Trouble as why:
+            raise Trouble(f"of the machine behind {what}: {why}") from None
 
     def does(self, line: str) -> int:
         """Runs a line of a shell there: its status."""
         pipe = sure(self.machine.stdin)
         pipe.write(f"{line}\n")
         pipe.flush()
-        return int(sure(self.machine.stdout).readline())
+        return int(self.answer(f"`{line}`"))
+
+    def end(self) -> None:
+        """Ends the machine, and all that runs there."""
+        self.machine.kill()
+        self.machine.wait(LONG)
+        with contextlib.suppress(BrokenPipeError):
+            sure(self.machine.stdin).close()
 
     def fences(self, program: str = FENCE, *more: str) -> None:
         """Starts it, for all machines."""
@@ -109,8 +127,7 @@ def network() -> Iterator[Network]:
         try:
             yield it
         finally:
-            it.machine.kill()
-            it.machine.communicate()
+            it.end()
 
 
 def of_an_eviction(name: str) -> list[str]:
@@ -118,11 +135,13 @@ def of_an_eviction(name: str) -> list[str]:
     return [f"tell mds.day:0 client evict {whose}", "tell mds.day:0 session ls"]
 
 
-def longest(network: Network, seconds: int) -> str:
-    """The program with another longest time for a command."""
+def with_times(network: Network, **seconds: int) -> str:
+    """The program with other times, by their names."""
     text = text_of("contrib/standby/fence-ceph")
-    assert text.count("LONGEST = 6 ") == 1
-    return put(f"{network.folder}/fence-ceph", text.replace("LONGEST = 6 ", f"LONGEST = {seconds} ").encode(), 0o755)
+    for name, count in seconds.items():
+        text, found = re.subn(rf"^{name} = \d+ ", f"{name} = {count} ", text, flags=re.MULTILINE)
+        assert (name, found) == (name, 1)
+    return put(f"{network.folder}/fence-ceph", text.encode(), 0o755)
 
 
 @for_root
@@ -202,7 +221,7 @@ def test_answers_that_say_no_word(network: Network) -> None:
 def test_machines_that_answer_again(network: Network) -> None:
     """A command that is under way is ended where the machine answers meanwhile, as where this one was cut off itself."""
     put(f"{network.folder}/hangs", b"")
-    network.fences(longest(network, 600))
+    network.fences(with_times(network, LONGEST=600))
     network.falls_silent("m3")
     await_that("a command is under way", lambda: bool(network.lines("hung")))
     network.answers("m3")
@@ -214,12 +233,22 @@ def test_machines_that_answer_again(network: Network) -> None:
 
 @for_root
 def test_commands_that_hang(network: Network) -> None:
-    """A command that hangs, as where monitors elect, is ended in time, and begun anew."""
+    """A command that hangs, as one to a server that is gone, is ended in time, and begun anew, however often."""
     put(f"{network.folder}/hangs", b"")
-    network.fences(longest(network, 1))
+    network.fences(with_times(network, LONGEST=1, MOST=1))
     network.falls_silent("m3")
-    await_that("it is asked again", lambda: len(network.lines("asked")) > 1)
+    await_that("it is asked again", lambda: len(network.lines("asked")) > 5)
     assert set(network.lines("asked")) == {of_an_eviction("m3")[0]}
+
+
+@for_root
+def test_commands_that_begin_late(network: Network) -> None:
+    """A command that was ended lets the next one take longer: so one that only begins late comes to its end."""
+    put(f"{network.folder}/late", b"2")
+    network.fences(with_times(network, LONGEST=1))
+    network.falls_silent("m3")
+    network.await_evicted("m3")
+    assert network.lines("asked")[:2] == [of_an_eviction("m3")[0]] * 2
 
 
 @for_root
@@ -247,8 +276,9 @@ def test_the_own_mounts(network: Network) -> None:
     """Without machines what is left of the own mounts is evicted, and the status says whether that could be done."""
     assert (network.does(f"{FENCE} /srv/venue"), network.lines("asked")) == (0, of_an_eviction("m1"))
     put(f"{network.folder}/refuses", b"")
-    assert network.does(f"{FENCE} /srv/venue") == 1
-    assert set(network.lines("asked")) == set(of_an_eviction("m1"))
+    assert network.does(f"{with_times(network, OWN=3)} /srv/venue") == 1
+    asked = network.lines("asked")[2:]
+    assert (len(asked) > 1, set(asked)) == (True, {of_an_eviction("m1")[0]})
 
 
 @for_root
@@ -340,5 +370,5 @@ def test_what_a_daemon_answers() -> None:
         thread = threading.Thread(target=serve, daemon=True)
         thread.start()
         assert (drill_ceph.asked(path, "ops"), drill_ceph.asked(path, "ops")) == (json.loads(said), {})
-        thread.join()
+        thread.join(LONG)
         assert requests == 2 * [b'{"prefix": "ops"}\0']

@@ -9,75 +9,89 @@ import fnmatch
 import gzip
 import os
 import re
+import shlex
 import shutil
 import subprocess
+import sys
 import tempfile
-from collections.abc import Iterator
 
 import pytest
 
 import installed
 import test_edge_package
-from checks import ROOT, contents, ran, text_of
-from packed import SCRIPT, Packed
+from checks import ROOT, contents, put_text, ran, text_of
+from packed import SCRIPT, VENUE, entries, expect_libraries, expect_sums, packing, put_packer, version
 from test_pages import PAGES, packed_page
 from venues import EVENTS, PATIENCE, REPLAY, VENUED, started
 
-pytestmark = [pytest.mark.quick, pytest.mark.usefixtures("programs")]
+pytestmark = [pytest.mark.quick, pytest.mark.usefixtures("programs"), pytest.mark.xdist_group("package")]
 
 UNITS = ("venued.service", "venued@.service")
+OF_WATCH = ("gikvand-watch.service", "gikvand-watch.timer", "gikvand-watch-all.service", "gikvand-watch-all.timer")
+PACKAGES = ("gikvand", "gikvand-edge", "gikvand-feed")
 OF_A_STANDBY = ("venued-fence-ceph.service", "venued-let-go@.path", "venued-let-go@.service")
 PROGRAMS = ("venued", "venue-replay", "venue-events")
-packing = pytest.mark.debian("dpkg-deb", "strip")
 RECIPE = "contrib/container/Containerfile"
+LATE = "4000000000"  # In seconds: 2 October 2096.
 EXPOSED = 15  # The greatest exposure of a service that is taken, in tenths, as systemd-analyze reckons it.
+made, unpacked = VENUE.made, VENUE.unpacked
 
 
-PACKED = Packed()
-made, unpacked = PACKED.made, PACKED.unpacked
-
-
-@pytest.fixture(scope="module", autouse=True)
-def removed() -> Iterator[None]:
-    """Removes the package at the end."""
-    yield
-    PACKED.remove()
-
-
-def version_of(package: str) -> str:
-    return ran("dpkg-deb", "-f", package, "Version")[1].strip()
+def file_name() -> str:
+    """The package's."""
+    return f"gikvand_{version()}_amd64.deb"
 
 
 @packing
 def test_files_of_the_package() -> None:
-    """What is in it, whose it is, and with which rights; its version, its sums, and that its programs are stripped."""
-    _, out, _ = ran("dpkg-deb", "-c", made())
-    lines = [line.split(maxsplit=5) for line in out.splitlines()]
-    assert {(line[1], line[0]) for line in lines} == (
-        {("root/root", it) for it in ("drwxr-xr-x", "-rwxr-xr-x", "-rw-r--r--", "lrwxrwxrwx")})
-    programs = {line[5] for line in lines if line[0] == "-rwxr-xr-x"}
-    assert programs == {*(f"./usr/bin/{it}" for it in PROGRAMS), "./usr/share/gikvand/scripts/gikvand",
-                        *(f"./usr/share/gikvand/standby/{it}" for it in ("before-start", "fence-ceph", "let-go", "serve",
-                                                                         "volume-settings"))}
-    names = {line[5].split(" -> ")[0] for line in lines}
+    """What is in it, and with which rights; and that its programs are stripped."""
+    found = entries(unpacked())
+    assert set(found.values()) == {"drwxr-xr-x", "-rwxr-xr-x", "-rw-r--r--", "lrwxrwxrwx"}
+    programs = {it for it in found if found[it] == "-rwxr-xr-x"}
+    assert programs == {*(f"usr/bin/{it}" for it in PROGRAMS), "usr/share/gikvand/scripts/gikvand",
+                        *(f"usr/share/gikvand/standby/{it}" for it in ("before-start", "fence-ceph", "let-go", "serve",
+                                                                       "volume-settings"))}
     modules = [it for it in os.listdir(os.path.join(ROOT, "tools/gikvand")) if it.endswith((".py", ".html"))]
     wanted = ["usr/bin/gikvand", *(f"usr/share/man/man{it[-1]}/{it}.gz" for it in PAGES),
-              *(f"usr/lib/systemd/system/{it}" for it in (*UNITS, *OF_A_STANDBY)), "usr/share/gikvand/standby/venued@.conf",
+              *(f"usr/lib/systemd/system/{it}" for it in (*UNITS, *OF_A_STANDBY, *OF_WATCH)), "usr/share/gikvand/standby/venued@.conf",
+              "usr/share/gikvand/watch/rules.yml", *(f"usr/share/doc/gikvand/examples/{it}" for it in ("members.nft", "sshd.conf")), *(f"usr/share/doc/gikvand/images/{it}.svg" for it in ("members", "trips")),
               "usr/share/gikvand/standby/ceph-settings",
-              "usr/lib/sysusers.d/venued.conf", "usr/share/doc/gikvand/copyright", "usr/share/doc/gikvand/changelog.gz",
+              "usr/lib/sysusers.d/venued.conf", "usr/share/doc/gikvand/README.Debian", "usr/share/doc/gikvand/copyright", "usr/share/doc/gikvand/changelog.gz",
               *(f"usr/share/bash-completion/completions/{it}" for it in ("gikvand", *PROGRAMS)),
               *(f"usr/share/gikvand/tools/gikvand/{it}" for it in modules)]
-    assert [it for it in wanted if f"./{it}" not in names] == []
-    assert [it for it in names if "__pycache__" in it] == []
+    assert [it for it in wanted if it not in found] == []
+    assert [it for it in found if "__pycache__" in it] == []
     for it in PAGES:
         assert ran("gzip", "-dc", os.path.join(unpacked(), f"usr/share/man/man{it[-1]}/{it}.gz"))[1] == packed_page(it)
-    assert version_of(made()).split("+")[0] == text_of("VERSION").strip()
-    assert os.path.basename(made()) == f"gikvand_{version_of(made())}_amd64.deb"
     for name in PROGRAMS:
         assert ".symtab" not in ran("readelf", "-S", os.path.join(unpacked(), "usr/bin", name))[1]
-    sums = ran("bash", "-c", 'dpkg-deb --ctrl-tarfile "$0" | tar -xO ./md5sums', made())[1]
-    assert ran("md5sum", "--check", "--quiet", given=sums, folder=unpacked()) == (0, "", "")
-    assert len(sums.splitlines()) == sum(line[0][0] == "-" for line in lines)
+
+
+def test_the_page_to_begin_with() -> None:
+    """Each page that it names is in a package, and has the heading that stands in front of its name."""
+    text = text_of("contrib/debian/gikvand.README.Debian")
+    packed = {page for it in PACKAGES for page in text_of(f"contrib/debian/{it}.docs").split()}
+    assert {f"docs/{it}" for it in re.findall(r"[A-Z]+\.md", text)} <= packed
+    named = re.findall(r'"([^"]+)" in ([A-Z]+\.md)', text)
+    assert text.count('"') == 2 * len(named) and len(named) >= 6
+    assert [it for it in named if not re.search(rf"^#+ {it[0]}$", text_of(f"docs/{it[1]}"), re.MULTILINE)] == []
+    assert max(map(len, text.splitlines())) <= 80
+
+
+@packing
+def test_archive_of_the_package() -> None:
+    """Its name and version, whose its files are, and its sums."""
+    assert ran("dpkg-deb", "-f", made(), "Version") == (0, f"{version()}\n", "")
+    assert (os.path.basename(made()), version().split("+")[0]) == (file_name(), text_of("VERSION").strip())
+    expect_sums(VENUE)
+
+
+@packing
+def test_needs_of_the_package() -> None:
+    """Each library that a program is linked with has its package, and the C library is as new as the programs ask."""
+    *libraries, python, users = VENUE.needed()
+    assert (python, users) == ("python3 (>= 3.10)", "systemd | systemd-standalone-sysusers | systemd-sysusers")
+    expect_libraries(libraries, VENUED, REPLAY, EVENTS)
 
 
 @packing
@@ -88,7 +102,7 @@ def test_the_changelog() -> None:
     own = text_of("CHANGELOG.md")
     released = re.findall(r"^## \[(\d[^\]]*)\]", own, re.MULTILINE)
     assert re.findall(r"^gikvand \((\S+)\)", text, re.MULTILINE)[-len(released):] == released
-    assert re.findall(r"^gikvand \((\S+)\)", text, re.MULTILINE)[0] == version_of(made())
+    assert re.findall(r"^gikvand \((\S+)\)", text, re.MULTILINE)[0] == version()
     assert text.count("\n  * ") == len(re.findall("^- ", own, re.MULTILINE))
 
 
@@ -100,21 +114,30 @@ def test_the_same_bytes() -> None:
         names = {it: os.path.abspath(path) for it, path in (("VENUED", VENUED), ("VENUE_REPLAY", REPLAY), ("VENUE_EVENTS", EVENTS))}
         assert ran("bash", "-c", words, SCRIPT, folder, TZ="Asia/Tokyo", LC_ALL="C", **names)[::2] == (0, "")
         assert contents(os.path.join(folder, os.path.basename(made()))) == contents(made())
-        status, out, err = ran(SCRIPT, "--output", folder, "--version", "99.1", SOURCE_DATE_EPOCH="1800000000")
+        status, out, err = ran(SCRIPT, "--output", folder, "--version", "99.1", SOURCE_DATE_EPOCH=LATE)
         assert (status, os.path.basename(out.strip()), err) == (0, "gikvand_99.1_amd64.deb", "")
-        assert "2027-01-15" in ran("dpkg-deb", "-c", out.strip(), TZ="UTC")[1]
+        assert {line.split()[3] for line in ran("dpkg-deb", "-c", out.strip(), TZ="UTC")[1].splitlines()} == {"2096-10-02"}
 
 
 @packing
 def test_words_of_the_script() -> None:
-    bare = dict[str, str]()
+    bare, packer = dict[str, str](), {"PATH": put_packer("packer", f"echo packed >{file_name()}; mkdir -p debian/gikvand\n")}
+    for place, rule in (("ends", "echo why >&2; exit 3"), ("lacks", "dh_nothing")):
+        put_text(f"{place}/make", f"#!/bin/sh\necho {shlex.quote(rule)}\necho exit 0\n", 0o755)
+    of_rules = "package: contrib/debian/rules: perl ended with status"
+    os.mkdir("path")
+    os.symlink(sys.executable, "path/python3")
     with tempfile.TemporaryDirectory(prefix="words-") as folder:
         for words, environment, line in (
-                (("--output", "none"), bare, f"package: none/{os.path.basename(made())} can't be written: No such file or directory"),
-                (("--version", "x"), bare, None), (("x",), bare, None),
+                (("--output", "none"), packer, f"package: none/{file_name()} can't be written: No such file or directory"),
+                (("--tree", "."), packer, "package: .: File exists"),
+                ((), {"PATH": f"{os.path.abspath('ends')}:{os.environ['PATH']}"}, f"{of_rules} 1: why"),
+                ((), {"PATH": f"{os.path.abspath('lacks')}:{os.environ['PATH']}"}, f"{of_rules} 1: dh_nothing isn't there"),
+                (("--version", "x"), bare, None), (("x",), bare, None), (("--all", "--tree", "new"), bare, None),
                 ((), {"SOURCE_DATE_EPOCH": "now"}, "package: SOURCE_DATE_EPOCH is a number of seconds, and not 'now'"),
                 ((), {"VENUED": "none"}, "package: none isn't built: scripts/build proves and builds it"),
-                ((), {"VENUED": "/bin/sh", "VENUE_REPLAY": SCRIPT}, None)):
+                ((), {"VENUED": "/bin/sh", "VENUE_REPLAY": SCRIPT}, f"package: {SCRIPT} is no program of this machine"),
+                ((), {"PATH": os.path.abspath("path")}, "package: dh_builddeb isn't there: Debian's package debhelper has it")):
             status, out, err = ran(SCRIPT, *words, folder=folder, **environment)
             assert (words, status, out, err == f"{line}\n" if line else bool(err)) == (words, 2, "", True)
         assert os.listdir(folder) == []
@@ -193,7 +216,7 @@ def test_services() -> None:
         os.makedirs(standby)
         shutil.copy(os.path.join(folder, "usr/share/gikvand/standby/venued@.conf"), standby)
         for unit in ("venued.service", "venued@one.service", "venued@standby.service", "venued-let-go@standby.path",
-                     "venued-let-go@standby.service", "venued-fence-ceph.service"):
+                     "venued-let-go@standby.service", "venued-fence-ceph.service", *OF_WATCH):
             assert ran("systemd-analyze", "verify", "--man=no", "--recursive-errors=no", f"--root={folder}", unit) == (0, "", "")
         for unit in UNITS:
             status, out, err = ran("systemd-analyze", "security", "--offline=true", f"--threshold={EXPOSED}", "--no-pager",
@@ -214,13 +237,12 @@ def test_the_user_of_the_services() -> None:
                 [["/var/lib/venued", "/usr/sbin/nologin\n"]])
 
 
-@packing
 def test_the_recipe_of_containers() -> None:
     """It takes the package by its name, and starts the venue in one of its images, and an edge in the other."""
     for target, unit in (("venue", "venued"), ("edge", "gikvand-edge@C1")):
         steps = installed.steps_of(text_of(RECIPE), target)
         copied = [it for instruction, words in steps if instruction == "COPY" for it in words.split()[:-1]]
-        assert [fnmatch.fnmatch(os.path.basename(made()), it) for it in copied] == [True, False]
+        assert [fnmatch.fnmatch(file_name(), it) for it in copied] == [True, False]
         runs = [words for instruction, words in steps if instruction == "RUN"]
         assert all(f"/root/{it}" in runs[0] for it in copied)
         assert [it.split("&& ")[-1] for it in runs[1:]] == [f"systemctl enable {unit}"]
@@ -235,10 +257,7 @@ def test_life_in_a_debian() -> None:
     """The packages in a small Debian: installed, served from, upgraded to later ones and back, and removed."""
     status, out, err = ran(SCRIPT, "--output", os.path.dirname(made()), "--version", "99.1")
     assert (status, err) == (0, "")
-    try:
-        installed.lives_in_a_debian(made(), out.strip(), test_edge_package.older_and_newer())
-    finally:
-        test_edge_package.PACKED.remove()
+    installed.lives_in_a_debian(made(), out.strip(), test_edge_package.older_and_newer())
 
 
 @packing
@@ -252,5 +271,4 @@ def test_life_in_containers() -> None:
     with tempfile.TemporaryDirectory(prefix="packages-") as folder:
         for it in (made(), test_edge_package.made()):
             shutil.copy(it, folder)
-        test_edge_package.PACKED.remove()
         installed.lives_in_two_containers(text_of(RECIPE), folder)

@@ -25,6 +25,7 @@ STANDBY = os.path.join(ROOT, "contrib/standby")
 STEP, SERVE, SETTINGS, LET_GO = (os.path.join(STANDBY, it) for it in ("before-start", "serve", "volume-settings", "let-go"))
 JOURNAL = "venue.journal"
 WRITTEN_AGAIN = 2 << 20  # So many bytes at the end.
+LONG = 120  # Seconds for what a program that was killed has said to come to its end.
 
 
 def put(path: str, data: bytes, mode: int = 0o600) -> str:
@@ -170,10 +171,10 @@ def said_of(folder: str, user: int, is_taken: bool) -> list[str]:
     try:
         if is_taken:
             assert venue.wait(PATIENCE) == -9
-        return sure(venue.stderr).read().splitlines()
+        return venue.communicate(timeout=LONG)[1].splitlines()
     finally:
         venue.kill()
-        venue.communicate()
+        venue.communicate(timeout=LONG)
 
 
 def test_a_venue_that_stays() -> None:
@@ -271,7 +272,7 @@ def test_a_touch_that_hangs() -> None:
         finally:
             with contextlib.suppress(ProcessLookupError):
                 os.killpg(venue.pid, signal.SIGKILL)
-            venue.communicate()
+            venue.communicate(timeout=LONG)
 
 
 def test_symbols_of_the_volume() -> None:
@@ -305,7 +306,7 @@ def test_the_watch() -> None:
             assert sure(venue.stderr).readline() == "serve: this machine is cut off from the store: the venue is ended\n"
         finally:
             venue.kill()
-            venue.communicate()
+            venue.communicate(timeout=LONG)
 
 
 def test_settings_of_the_volume() -> None:

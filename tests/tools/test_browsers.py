@@ -6,6 +6,8 @@ import json
 import os
 import signal
 import socket
+from collections.abc import Iterator
+from typing import Any, BinaryIO
 from unittest import mock
 
 import pytest
@@ -13,7 +15,7 @@ import pytest
 from gikvand import board, pages
 from made_journals import JOURNAL, contents, gikvand, made, put
 from running_tools import Running
-from venues import HOST, PATIENCE, Trouble, await_that, free_port
+from venues import HOST, PATIENCE, Trouble, await_that, free_port, replay
 
 pytestmark = [pytest.mark.slow, pytest.mark.usefixtures("programs")]
 
@@ -140,6 +142,11 @@ def asked_quietly(address: str, path: str) -> bytes:
     return b""
 
 
+def told_in(heard: BinaryIO) -> Iterator[dict[str, Any]]:
+    """What a board tells a browser, one after the other."""
+    return (json.loads(line.removeprefix(b"data: ")) for line in heard if line.startswith(b"data: "))
+
+
 @pytest.mark.usefixtures("journal")
 def test_ends_of_a_board() -> None:
     """Both signals end it in order, and who listens hears of that. Its page is the one that lies beside the module. With it ends
@@ -152,12 +159,16 @@ def test_ends_of_a_board() -> None:
         with socket.create_connection((HOST, port_in(address)), PATIENCE) as ends:
             ends.sendall(get(f"{path}events"))
             heard = ends.makefile("rb")
-            told = json.loads(next(line for line in heard if line.startswith(b"data: "))[6:])
+            told = next(told_in(heard))
             assert (told["journal"], told["holder"]) == (JOURNAL, "")
             assert it.end(number) == (0, None)
             assert heard.read().endswith(pages.ENDED)
     it = Running(JOURNAL)
-    it.address()
+    address = it.address()
+    _, counts = replay(JOURNAL, "book", ("ABC", "XYZ"))
+    with socket.create_connection((HOST, port_in(address)), PATIENCE) as listens:  # (else it may end by what it can't tell any more)
+        listens.sendall(get(f"{address[address.index('/', 7):]}events"))
+        next(it for it in told_in(listens.makefile("rb")) if it["caught_up"] and (it["commands"], it["outputs"]) == counts)
     with open(f"/proc/{it.process.pid}/task/{it.process.pid}/children", encoding="ascii") as file:
         (follower,) = file.read().split()
     it.kill()

@@ -13,7 +13,7 @@ from unittest import mock
 import pytest
 
 from checks import ROOT
-from gikvand import edge
+from gikvand import edge, logs
 from gikvand.fix import fields_of, sealed
 from made_journals import JOURNAL, SYMBOLS, cancel, contents, each_version, gikvand, made, put, trade
 from test_reports import as_printed
@@ -22,14 +22,15 @@ from venues import Trouble, order, started, value
 pytestmark = [pytest.mark.slow, pytest.mark.edge, pytest.mark.usefixtures("programs")]
 
 SETTINGS = "edge.cfg"
+PLACES = 10 ** 16               # Of names that each venue has in a record.
 STEPS = {"ABC": 100, "XYZ": 4}  # Steps of a price in one, by 0.01 and 0.25.
 
 
-def schema() -> str:
-    """The tables of a record, as edge/src/record.cpp makes them."""
+def schema(*names: str) -> str:
+    """The tables of a record, as edge/src/record.cpp makes them, or these of them."""
     with open(os.path.join(ROOT, "edge/src/record.cpp"), encoding="utf-8") as file:
         texts = dict(re.findall(r"const char \*const (\w+) =\n(.*?\");\n\n", file.read(), re.DOTALL))
-    return "".join("".join(re.findall('"([^"]*)"', texts[name])) + ";" for name in ("TURNS", "TABLES", "SWITCHES"))
+    return "".join("".join(re.findall('"([^"]*)"', texts[name])) + ";" for name in names or ("TURNS", "TABLES", "SWITCHES"))
 
 
 def settings(**more: str) -> str:
@@ -238,6 +239,75 @@ def test_reports_of_desks() -> None:
                          (["reports", JOURNAL, "C1.4", "--edge", SETTINGS], f"{SETTINGS} has no session of C1.4")):
         status, _, err = gikvand(*words)
         assert (status, err) == (2, [f"gikvand {words[0]}: {fault}"])
+
+
+def told_at(letter: str, report: str) -> dict[str, str]:
+    """A report to C1 as the edge tells it where the member has several venues: the second one has a letter in names by numbers, too."""
+    it = told(1, report)
+    for tag in ("17", "37"):
+        if it.get(tag, "").isdecimal():
+            it[tag] = f"{letter}{it[tag]}"
+    for tag in ("11", "41"):
+        if letter == "B" and it.get(tag, "").startswith("edge-lost-"):
+            it[tag] = it[tag].replace("edge-lost-", "edge-lost-B")
+    return it
+
+
+def settings_of_two(own: str, other: str, steps: str = "ABC:0.01 XYZ:0.25") -> None:
+    """The settings of an edge in front of two venues, of which one has the journal."""
+    journals = {f"VenueJournal{own}": JOURNAL, f"VenueJournal{other}": "other.journal"}
+    text = contents(settings(Venues="A B", SymbolsA=steps, SymbolsB=steps, **journals))
+    put(SETTINGS, text.replace(b"\nSymbols=ABC:0.01 XYZ:0.25", b""))
+
+
+def test_several_venues_behind_the_edge() -> None:
+    """Of a member with several venues the log has the reports of all, and those of the journal's venue are taken: by the letter of ExecID
+    or OrderID, and a refused cancel of no order by names. Those of before, without a letter, are of the venue that the record had first."""
+    assert [logs.place_of(f"35=8|17={text}|") for text in ("A17", "17", "AE17.1", "E17.1")] == [17, 17, None, None]
+    it = made(3)
+    put(JOURNAL, it.data)
+    put(f"{JOURNAL}.symbols", b"ABC XYZ\n")
+    put("other.journal", b"")
+    edges()
+    with contextlib.closing(sqlite3.connect("edge/C1/C1.db")) as kept:
+        kept.executescript(f"""{schema("VENUES")}
+            INSERT INTO venues VALUES (0, 'A', 0, 0, 1, 0, 0, 0, 0), (1, 'B', 0, 0, 1, 0, 0, 0, 0);
+            INSERT INTO names SELECT number + {PLACES}, kind, name, at FROM names WHERE number < 80;
+            INSERT INTO names VALUES ({PLACES + 80}, 'r', 'edge-desk-2:of-desk', 0);""")
+        kept.commit()
+    heard = told_by_edge(it.heard[1])
+    words = ["verify", JOURNAL, "C1=c1.log", "--edge", SETTINGS]
+    whole = f"C1: {len(heard)} reports of c1.log as the journal tells them, which has 0 more"
+
+    def refused(original: str) -> dict[str, str]:
+        """A refused cancel of no order."""
+        return {"35": "9", "37": "NONE", "11": "x", "41": original, "39": "8", "434": "1", "102": "1", "60": "20250102-09:30:00"}
+
+    for letter, other in (("A", "B"), ("B", "A")):
+        settings_of_two(letter, other)
+        own, before = [told_at(letter, line) for line in heard], [told(1, line) for line in heard]
+        others = [row for row in (told_at(other, line) for line in heard) if row["37"] != "NONE"]
+        here, there = ("edge-lost-5", "edge-lost-B5") if letter == "A" else ("edge-lost-B5", "edge-lost-5")
+        of_before = before if letter == "A" else [*own, *(row for row in before if row["37"] != "NONE")]  # Of B they are the other one's.
+        for name, rows, is_right in (("its own", own, True), ("of both", [*own, *others, refused(there), refused("unknown")], True),
+                                     ("of before", of_before, True), ("of a number here", [*own, refused(here)], False),
+                                     ("of a desk", [*own, refused("of-desk")], letter == "A")):
+            logged([sent(at, "DESK-A", row) for at, row in enumerate(rows, 2)])
+            status, out, err = gikvand(*words)
+            assert (letter, name, status, whole in out, err) == (letter, name, 0 if is_right else 1, True, [])
+        lines, again = ([sent(at, "DESK-A", row, more) for at, row in enumerate(own, 2)] for more in ("", "43=Y|"))
+        for name, log in (("again", [*lines, *again]), ("all by a resend", again), ("a part once more", [*lines, *again[1:3]]),
+                          ("the rest by a resend", [*lines[:2], *again])):
+            logged(log)
+            status, out, err = gikvand(*words)
+            assert (letter, name, status, whole in out, err) == (letter, name, 0, True, [])
+        logged([*lines[:2], *lines[3:]])
+        assert f"C1: {len(heard) - 1} reports of c1.log as the journal tells them, which has 1 more" in gikvand(*words)[1]
+        trades = list(csv.DictReader(gikvand("trades", JOURNAL, "--csv", "--edge", SETTINGS)[1]))
+        assert {it[f"{side}{what}"][:1] for it in trades for side in ("Buyer", "Seller") for what in ("OrderID", "ExecID")
+                if it[side].startswith("DESK")} == {letter}
+        settings_of_two(letter, other, "XYZ:0.25")  # What the journal has of other symbols came by a wrong port.
+        assert {value(line, "35") for line in gikvand("reports", JOURNAL, "C1", "--edge", SETTINGS)[1]} == {"9"}
 
 
 def test_probes_of_the_edge() -> None:

@@ -522,7 +522,7 @@ def test_one_follower_a_copy() -> None:
     assert followed(JOURNAL, "the.copy", "--once") == (2, [], [f"gikvand follow: the.copy is in use by {who}"])
     status, out, _ = gikvand("watch", "the.copy", "--quick", "--prometheus")
     assert (status, 'gikvand_up{journal="the.copy"} 0' in out) == (1, True)
-    assert gikvand("why", "the.copy")[1] == [f"fault 41: {who} has it, and one process alone may",
+    assert gikvand("why", "the.copy")[1] == [f"in use: {who} has it, and each other start is fault 41",
                                              f"    let it go on, or end it first: kill {follower.process.pid}"]
     assert follower.end(signal.SIGTERM)[0] == 0
 

@@ -40,20 +40,35 @@ def test_symbols_of_a_journal() -> None:
     assert contents(f"{JOURNAL}.symbols") == b"ABC\n"
 
 
-def words_of_the_service(head: str) -> list[str]:
-    """The words of what the unit does, as systemd gives them to the shell, but for what it puts in the place of $MAINPID."""
+NOBODY = {"PORT": "1", "GATEWAYS": "1"}  # A port at which nobody listens.
+
+
+def words_of_the_service(head: str) -> list[list[str]]:
+    """The words of what the unit does, one behind the other, as systemd gives them to the shell, but for what it puts in the place of
+    $MAINPID."""
     with open(os.path.join(ROOT, "contrib/venued.service"), encoding="utf-8") as file:
         lines = file.read().replace("\\\n", " ").splitlines()  # As systemd joins them.
-    line = next(line.partition("=")[2] for line in lines if line.startswith(f"{head}="))
-    return shlex.split(line.replace("$$", "$").replace("%%", "%"))
+    said = [line.partition("=")[2] for line in lines if line.startswith(f"{head}=")]
+    return [shlex.split(it.replace("$$", "$").replace("%%", "%")) for it in said]
 
 
 def of_the_service(head: str, symbols: str, *more: str, **environment: str) -> tuple[int, str]:
     """What the unit does before a start, or behind it, with these symbols: its status and its line."""
-    words = words_of_the_service(head)
-    it = subprocess.run([*words[:3], *more], env={"SYMBOLS": symbols, "PATH": "/usr/bin:/bin", **environment}, timeout=PATIENCE,
-                        capture_output=True, text=True)
+    for words in words_of_the_service(head):
+        it = subprocess.run([*words[:3], *more], env={"SYMBOLS": symbols, "PATH": "/usr/bin:/bin", **NOBODY, **environment}, timeout=PATIENCE,
+                            capture_output=True, text=True)
+        if it.returncode:
+            break
     return it.returncode, it.stderr
+
+
+@pytest.mark.parametrize("settings, why", [
+    ({}, ""), ({"GATEWAYS": "8"}, ""), ({"SYMBOLS": "A="}, ""), ({"PORT": ""}, "PORT is missing"), ({"GATEWAYS": ""}, "GATEWAYS is missing"),
+    ({"SYMBOLS": ""}, "SYMBOLS is missing"), *(({"GATEWAYS": it}, f"GATEWAYS is 1 to 8, and not {it}") for it in ("0", "9", "08", "1 2", "x"))])
+def test_words_of_the_service(settings: dict[str, str], why: str) -> None:
+    """A setting that is missing is told by its name, and so is a number of gateways that the program doesn't take."""
+    given = {"SYMBOLS": "ABC", **settings}
+    assert of_the_service("ExecStartPre", given.pop("SYMBOLS"), **given) == ((1, f"/etc/venued.conf: {why}\n") if why else (0, ""))
 
 
 def test_symbols_of_the_service() -> None:
@@ -72,7 +87,7 @@ def test_symbols_of_the_service() -> None:
     made_by = os.stat(f"{JOURNAL}.symbols")
     assert (before("ABC XYZ"), behind("ABC XYZ")) == ((0, ""), b"ABC XYZ\n")
     assert os.path.samestat(os.stat(f"{JOURNAL}.symbols"), made_by) == True
-    for other in ("ABC", "XYZ ABC", "ABC XYZ Q", ""):
+    for other in ("ABC", "XYZ ABC", "ABC XYZ Q"):
         line = f"{JOURNAL} is one of ABC XYZ, as {JOURNAL}.symbols says, and not of {other}\n"
         assert (before(other), contents(f"{JOURNAL}.symbols")) == ((2, line), b"ABC XYZ\n")
     os.rename(JOURNAL, "away")
@@ -102,7 +117,7 @@ def test_calls_of_the_symbols() -> None:
     def of_the_unit() -> list[str]:
         port = free_port(1)
         with socket.create_server((HOST, port)):
-            status, calls = noted(*words_of_the_service("ExecStartPost")[:3], str(os.getpid()), PORT=str(port), GATEWAYS="1",
+            status, calls = noted(*words_of_the_service("ExecStartPost")[0][:3], str(os.getpid()), PORT=str(port), GATEWAYS="1",
                                   SYMBOLS="ABC", PATH="/usr/bin:/bin")
         assert status == 0
         return order_of(calls, name, f"{name}.new", ".")
@@ -123,7 +138,7 @@ def test_starts_of_the_service() -> None:
         assert of_the_service("ExecStartPre", "ABC", **ports) == (1, f"somebody listens at port {first + 1}\n")
     assert of_the_service("ExecStartPre", "ABC", **ports) == (0, "")
     main = subprocess.Popen(["sleep", "600"])
-    waits = subprocess.Popen([*words_of_the_service("ExecStartPost")[:3], str(main.pid)],
+    waits = subprocess.Popen([*words_of_the_service("ExecStartPost")[0][:3], str(main.pid)],
                              env={"SYMBOLS": "ABC", "PATH": "/usr/bin:/bin", **ports})
     try:
         with socket.create_server((HOST, first)):

@@ -7,7 +7,7 @@ from unittest import mock
 
 import pytest
 
-from gikvand import journals
+from gikvand import journals, mends
 from gikvand.journals import Entry
 from made_journals import BEHIND, DAY, JOURNAL, SYMBOLS, contents, each_version, gikvand, made, put, with_byte
 from venues import Client, Trouble, message, order, replay, started, value
@@ -190,7 +190,7 @@ def test_wrong_logs() -> None:
                  ([sealed_again(first, "|38=100|", "|38=101|"), *heard[1:]], "the venue told it otherwise, as "),
                  ([*heard, last], twice),
                  ([heard[1], heard[0], *heard[2:]], twice),
-                 ([*heard, sealed_again(last, f"|17={value(last, '17')}|", "|17=999|")], "the journal ends before it"),
+                 ([*heard, sealed_again(last, f"|17={value(last, '17')}|", "|17=999|")], "the journal's reports end before it"),
                  ([*before, sealed_again(reject, "|102=1|", "|102=6|"), *behind], elsewhere),
                  ([*before, *behind[:2], reject, *behind[2:]], elsewhere),
                  ([*before, behind[0], reject, *behind[1:]], elsewhere),
@@ -200,6 +200,7 @@ def test_wrong_logs() -> None:
             status, out, err = gikvand("verify", JOURNAL, "C1=wrong.log")
             found = [line for line in out if line.startswith(f"wrong.log: {words}")]
             assert (words, status, len(found), err) == (words, 1, 1, [])
+            assert out[-3] == f"    {mends.LOGGED}"  # (behind the findings of a log, of which none knows its cause)
         other = it.heard[2][0]
         put("wrong.log", log_of([*heard[:1], sealed_again(other, "56=C2", "56=C1"), *heard[1:]], "|"))
         status, out, _ = gikvand("verify", JOURNAL, "C1=wrong.log")
@@ -207,7 +208,7 @@ def test_wrong_logs() -> None:
         put(JOURNAL, it.data[:it.starts[-1]] + b"\0")
         put("right.log", log_of(heard, "|"))
         status, out, _ = gikvand("verify", JOURNAL, "C1=right.log")
-        assert (status, any("an older copy" in line for line in out)) == (1, True)
+        assert (status, any("the journal's reports end before it" in line for line in out), out[-3]) == (1, True, f"    {mends.LOGGED}")
 
 
 def test_journals_in_use() -> None:

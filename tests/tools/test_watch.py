@@ -2,6 +2,7 @@
 outside."""
 import errno
 import importlib
+import io
 import os
 import resource
 import socket
@@ -43,6 +44,9 @@ def test_whys_of_names() -> None:
     put(f"{JOURNAL}.new", journals.empty())
     who = subprocess.run(["id", "-un"], capture_output=True, text=True).stdout.strip()
     assert causes(JOURNAL) == (0, [f"{JOURNAL}: nothing stands in the way, as {who}: it is missing, and is made at a start"])
+    put(f"{JOURNAL}.symbols", b"ABC\n")
+    assert causes(JOURNAL) == (1, [f"the service's line: {JOURNAL} is missing, and {JOURNAL}.symbols says that there was one"])
+    os.remove(f"{JOURNAL}.symbols")
     put(f"{JOURNAL}.new", journals.empty() + b"\0")
     assert causes(JOURNAL) == (1, [f"fault 41: {JOURNAL}.new is in the way: it is more than an empty journal"])
     assert started_with(JOURNAL) == "venued: journal fault 41"
@@ -60,7 +64,7 @@ def started_with(journal: str) -> str | None:
 
 def test_whys_of_a_lock() -> None:
     venue = started(JOURNAL, 1, SYMBOLS)
-    assert causes(JOURNAL) == (1, [f"fault 41: venued (process {venue.process.pid}) has it, and one process alone may"])
+    assert causes(JOURNAL) == (1, [f"in use: venued (process {venue.process.pid}) has it, and each other start is fault 41"])
     assert started_with(JOURNAL) == "venued: journal fault 41"
     venue.stop()
     assert causes(JOURNAL)[0] == 0
@@ -79,6 +83,10 @@ def test_whys_of_rights() -> None:
         assert [it.rpartition(": ")[2] for it in causes(JOURNAL)[1]] == ["Permission denied"]
         status, found = causes("other.journal")
         assert (status, [" may not make files in ." in it for it in found]) == (1, [True])
+    os.mkdir("closed", 0o700)
+    with as_nobody():
+        for name in (JOURNAL, "none"):
+            assert [it.partition(" may not ")[2] for it in causes(f"closed/{name}")[1]] == [f"look for closed/{name}"]
     os.chmod(".", 0o711)
     os.chmod(JOURNAL, 0o666)
     with as_nobody():
@@ -95,13 +103,11 @@ class Room(NamedTuple):
 
 
 def test_whys_of_a_machine() -> None:
-    """A full disk, one that takes no writes, no room for a file, too few open files, and a device that doesn't read."""
+    """A disk that takes no writes, no room for a file, too few open files, and a device that doesn't read."""
     data = made(3).data
     put(JOURNAL, data)
     put(f"{JOURNAL}.symbols", b"ABC XYZ\n")
-    little = f"1000 bytes are free on the disk of {JOURNAL}, and a snapshot may need 200000"
-    cases = [(Room(f_bavail=1000), JOURNAL, little),
-             (Room(f_flag=os.ST_RDONLY), JOURNAL, f"the file system of {JOURNAL} takes no writes"),
+    cases = [(Room(f_flag=os.ST_RDONLY), JOURNAL, f"the file system of {JOURNAL} takes no writes"),
              (Room(f_favail=0), "new.journal", "the file system of . has no room for a further file")]
     for room, name, cause in cases:
         with mock.patch.object(os, "statvfs", lambda _, room=room: room):
@@ -121,6 +127,29 @@ def test_whys_of_a_machine() -> None:
     with mock.patch.object(importlib.import_module("gikvand.journals"), "exactly", failing):
         assert causes(JOURNAL) == (1, [f"fault 41: the device doesn't read {JOURNAL}, near byte {start}: Input/output error"])
     assert contents(JOURNAL) == data
+
+
+def test_whys_of_a_full_disk() -> None:
+    """A start wants room for a missing journal, and for a snapshot that is due; else an order ends the venue, which is told."""
+    order = next(iter(journals.Reader(io.BytesIO(made(3).data)))).entries[0]
+
+    def of(version: int, size: int, more: bytes = b"") -> bytes:
+        return journals.header(version) + journals.in_blocks(version, [order] * size, 100) + more + journals.CLOSED
+    snapshot = journals.snapshot_block((500).to_bytes(8, "big") + bytes(journals.SNAPSHOT_HEAD - 8))
+    behind = journals.in_blocks(3, [order] * 999, 100)
+    free = f"1000 bytes are free on the disk of {JOURNAL}"
+    later = f"journal failed: {free}: it opens, and an order that finds no room ends the venue"
+    due = f"fault 41: {free}, and the snapshot that is due may need 200000"
+    cases = [(of(3, 999), later), (of(3, 1000), due), (of(2, 1000), later), (of(1, 1000), later), (of(3, 500, snapshot + behind), later),
+             (of(3, 500, snapshot + behind + journals.block_of(3, [order])), due)]
+    with mock.patch.object(os, "statvfs", lambda _: Room(f_bavail=1000)):
+        for data, line in cases:
+            put(JOURNAL, data)
+            found = causes(JOURNAL)
+            assert (found[0], [it for it in found[1] if "weren't compared" not in it]) == (1, [line])
+        assert causes("new.journal") == (1, [later.replace(JOURNAL, "new.journal")])
+    with mock.patch.object(os, "statvfs", lambda _: Room(f_bavail=16)):
+        assert causes("new.journal") == (1, ["fault 41: 16 bytes are free on the disk of new.journal, and an empty journal has 17"])
 
 
 def test_whys_of_bytes() -> None:
