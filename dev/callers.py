@@ -167,16 +167,7 @@ class Callers:
 
     def receiver(self, source: Source, text: str, dot: int) -> set[str]:
         """The types that the value in front of a dot may have; none where nothing tells."""
-        at = dot
-        while at and text[at - 1] in " \n?":
-            at -= 1
-        end = at
-        while at and text[at - 1] in ")]":
-            at = opening(text, at - 1)
-            end = at
-        while at and (text[at - 1].isalnum() or text[at - 1] == "_"):
-            at -= 1
-        word, is_call = text[at:end], text[end:end + 1] == "("
+        word, is_call, at = value_at(text, dot)
         if not word:
             return set()
         if is_call:
@@ -187,6 +178,17 @@ class Callers:
         if text[at - 1:at] == ".":
             return self.fields.get(word, set())
         return self.local(source, word, function)
+
+    def is_plain(self, source: Source, text: str, dot: int) -> bool:
+        """Whether the value in front of a dot is a slice or a number, which has no methods of ours: as a parameter, as a
+        field, or as what a call of ours answers."""
+        word, is_call, at = value_at(text, dot)
+        if is_call or text[at - 1:at] == ".":
+            known = self.results if is_call else self.fields
+            return word in known and not known[word]
+        function = self.around(source, text, dot)
+        of_type = contracts.parameters(function.head).get(word) if function else None
+        return bool(of_type and not TYPE.search(of_type))
 
     def local(self, source: Source, word: str, function: contracts.Function | None) -> set[str]:
         """The types that a variable of a function may have."""
@@ -216,6 +218,20 @@ class Callers:
         for word in re.findall(r"\.([a-z_]\w*)\b(?!\()", value):
             found |= self.fields.get(word, set())
         return found
+
+
+def value_at(text: str, dot: int) -> tuple[str, bool, int]:
+    """The last word of the value in front of a dot, whether that is a call, and where the word begins."""
+    at = dot
+    while at and text[at - 1] in " \n?":
+        at -= 1
+    end = at
+    while at and text[at - 1] in ")]":
+        at = opening(text, at - 1)
+        end = at
+    while at and (text[at - 1].isalnum() or text[at - 1] == "_"):
+        at -= 1
+    return text[at:end], text[end:end + 1] == "(", at
 
 
 def opening(text: str, at: int) -> int:

@@ -21,7 +21,6 @@ from below import OF_TESTS, crate_of
 PROGRAM = "venued"
 BEGINS = (("Worker", "turn"), ("Stage", "poll"))  # The functions of traits with whose implementations the way begins.
 WORD = re.compile(r"\w+")
-VALUE = re.compile(r"(?<![\w.])(\w+)$")
 
 
 class Step(NamedTuple):
@@ -87,11 +86,11 @@ class Way:
         return used
 
     def homes(self) -> dict[str, set[str]]:
-        """The files that have a type, a constant or a function of a name, and those that implement something for a type."""
+        """The files that have a type, a constant, or a function that others see, by its name, and those that implement something for a type."""
         found = collections.defaultdict[str, set[str]](set)
         for path, lines in self.texts.items():
             names = [it.name for it in contracts.items(lines) if it.kind != "trait"]
-            names += [it.name for it in self.sources[path].functions if not it.owner]
+            names += [it.name for it in self.sources[path].functions if it.visibility and not it.owner]
             for name in [*names, *(it.type for it in self.blocks[path] if it.type)]:
                 found[name].add(path)
         return found
@@ -109,11 +108,8 @@ class Way:
     def by_value(self, caller: Step, text: str) -> Iterator[Step]:
         """What is called as `x.name(..)`."""
         source = self.sources[caller.path]
-        given = contracts.parameters(self.functions[caller.path, caller.first].head)
-        plain = {name for name, of_type in given.items() if of_type and not callers.TYPE.search(of_type)}
         for it in callers.METHOD.finditer(text):
-            value = VALUE.search(text, 0, it.start())
-            if (there := self.methods.get(it[1])) and not (value and value[1] in plain):
+            if (there := self.methods.get(it[1])) and not self.code.is_plain(source, text, it.start()):
                 types = self.code.receiver(source, text, it.start())
                 yield from (step for step in there if (types & {step.owner, step.trait} if types else
                                                        self.code.reaches(source, {step.owner})))

@@ -22,7 +22,6 @@ import ratchet
 from below import Entry, Project
 from checks import Check, printed, put_text
 from figures import CHAPTERS, ENDS, RECORDS, WHOLE, Page
-from gikvand.words import sure
 
 SCRIPTS = [*(f"dev/{it}" for it in ("reads", "below.py", "antt.py", "contracts.py", "with_scripts.py")),
            *(f"scripts/{it}" for it in ("crates.py", "needs_python.py", "with_tools.py"))]
@@ -231,10 +230,11 @@ def made_up(check: Check) -> None:
         for words, (part, status) in TOLD.items():
             said, its = run(root, words)
             check.count(part in said and its == status, f"{' '.join(words)}: status {its}\n{said}")
-        with subprocess.Popen([f"{root}/dev/reads", "look"], stdout=subprocess.PIPE, stderr=subprocess.PIPE) as it:
-            sure(it.stdout).close()
-            said_of_it = sure(it.stderr).read()
-        check.count((it.returncode, said_of_it) == (-signal.SIGPIPE, b""), f"nobody reads it: status {it.returncode}\n{said_of_it!r}")
+        reader, writer = os.pipe()
+        os.close(reader)  # (before it begins, so that it has nobody from its first line on)
+        it = subprocess.run([f"{root}/dev/reads", "look"], stdout=writer, stderr=subprocess.PIPE)
+        os.close(writer)
+        check.count((it.returncode, it.stderr) == (-signal.SIGPIPE, b""), f"nobody reads it: status {it.returncode}\n{it.stderr!r}")
         with open(f"{root}/crates/lower/specs/Numbers.antt", "a", encoding="utf-8") as file:
             file.write("\nuse Rattle.lower.specs.Shapes.{Gone}\n\nabbrev pub lost : ℕ\nlost = unfound Gone\n")
         said, status = run(root, ("lost",))

@@ -88,11 +88,11 @@ pub struct Memory;
 
 impl Wire for Memory {
     fn read(&mut self) -> u64 {
-        remembered()
+        asked()
     }
 }
 
-fn remembered() -> u64 {
+fn asked() -> u64 {
     1
 }
 """,
@@ -142,9 +142,13 @@ impl<W: Wire> Gateway<W> {
     }
 }
 
-/// A method of a slice is none of ours, whatever a type of ours has.
+/// A method of a slice is none of ours, whatever a type of ours has: of one that is given, or that a call answers.
 fn sized(bytes: &[u8]) -> u64 {
-    bytes.unclaimed()
+    bytes.unclaimed() + whole(bytes).unclaimed()
+}
+
+fn whole(bytes: &[u8]) -> &[u8] {
+    bytes
 }
 
 pub struct Processor {
@@ -242,7 +246,7 @@ deeper n = n
     "crates/gateway/proofs/gateway/turn/Answers.antt": "-- \n" * 40,
     "crates/gateway/proofs/gateway/hear/Answers.antt": "-- \n" * 41,
     "crates/gateway/proofs/gateway/poll/Answers.antt": "-- \n" * 101,
-    "crates/gateway/proofs/Lemmas.antt": "-- \n" * 200 + "-- " + "x" * 118 + "\n",
+    "crates/gateway/proofs/Lemmas.antt": "-- \n" * 203 + "-- " + "x" * 118 + "\n",
     "crates/venued/src/main.rt": """
 use venue::listen;
 
@@ -255,7 +259,7 @@ fn main() {
 }
 WAY = [
     "files: 3",
-    "    crates/gateway/src/gateway.rt  hear, poll, sized, turn",
+    "    crates/gateway/src/gateway.rt  hear, poll, sized, turn, whole",
     "    crates/rings/src/rings.rt  claim, first, step",
     "    crates/wires/src/socket.rt  asked, read",
     "crossings: 3",
@@ -366,8 +370,8 @@ def test_figures() -> None:
     crates = there.pop("crates")
     assert there == FIGURES
     assert list(crates) == ["rings", "barrier", "wires", "workers", "gateway", "venue", "venued"]
-    assert crates["gateway"] == {"lines": LINES["gateway"], "functions": 4, "lines of specs": 10, "lines of proofs": 383,
-                                 "proofs to code": 7.6}
+    assert crates["gateway"] == {"lines": LINES["gateway"], "functions": 5, "lines of specs": 10, "lines of proofs": 386,
+                                 "proofs to code": 7.1}
     assert (crates["rings"]["lines"], crates["rings"]["functions"], crates["rings"]["proofs to code"]) == (LINES["rings"], 4, 0.0)
     assert ROWS in text_of(HEADLINE)
 
@@ -507,7 +511,7 @@ def test_written_by_hand() -> None:
     path = "crates/gateway/proofs/gateway/turn/Answers.antt"
     add(path, "-- \n")
     higher = text_of(KEPT).replace('"above 40 lines": 2', '"above 40 lines": 3').replace('"lines beyond 40": 62', '"lines beyond 40": 63')
-    higher = higher.replace('"lines of proofs": 383', '"lines of proofs": 384')
+    higher = higher.replace('"lines of proofs": 386', '"lines of proofs": 387')
     put(KEPT, higher)
     found = refused("Raised: answers/above 40 lines from 2 to 3: why", "Raised: answers/lines beyond 40 from 62 to 63: why")
     committed()
@@ -532,7 +536,7 @@ def test_merged() -> None:
     subprocess.run(["git", "-c", "user.name=a", "-c", "user.email=b", "merge", "-q", "-s", "ours", "two", "-m", "both"], check=True)
     assert '"above 40 lines": 1' in less
     refused("Raised: answers/above 40 lines from 1 to 2: why", "Raised: answers/lines beyond 40 from 61 to 62: why",
-            "Raised: crates/gateway/proofs to code from 7.5 to 7.6: why")
+            "Raised: crates/gateway/proofs to code from 7 to 7.1: why")
 
 
 def test_bounds() -> None:

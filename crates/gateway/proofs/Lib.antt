@@ -28,7 +28,3 @@ pub mod ActLemmas
 pub mod RecordLemmas
 pub mod SittingLemmas
 pub mod VisitLemmas
-pub mod LifeLemmas
-pub mod TurnLives
-pub mod ServedLemmas
-pub mod VisitLaws

@@ -11,7 +11,5 @@ pub mod Judging
 pub mod Seats
 pub mod Gateways
 pub mod Delivers
-pub mod Accepting
-pub mod AcceptingLaws
 pub mod Visits
 pub mod EndingNumber

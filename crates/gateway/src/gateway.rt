@@ -2,9 +2,9 @@
 //! on a little, so that one thread can take the turns of several. Without a session it passes its outputs over, so that
 //! the output ring doesn't wait for it.
 ghost use Rattle.std.specs.Prelude.{◌≡◌, ◌≢◌, ◌↔◌, ◌≤◌, ◌<◌, ◌^◌, [], None, true, false, length, IfOk, IfErr};
+ghost use Rattle.wires.specs.Flushing.{Flushes};
 
 use crate::ending::{Reason, Turned};
-use crate::flushing::flush;
 use crate::seat::{TryPublish, take, try_publish};
 use crate::session::Session;
 use barrier::Take;
@@ -14,13 +14,28 @@ use ring_words::{GatewaySeat, Rings};
 use std::alloc::{AllocError, Global};
 use std::marker::Model;
 use venue_model::LONGEST_MESSAGE;
-use wires::{Flushed, Input, TryRead, Wire};
+use wires::{Flushed, Input, TryRead, TryWrite, Wire};
 
 /// After so many turns in a row in which the wire took no byte of those that stood to be written a session is over.
 const MOST_DEAF: u32 = 100_000;
 
 /// After so many turns in a row that wrote nothing and took no output, behind the client's end, a session is over.
 const MOST_IDLE: u32 = 1_000;
+
+/// Writes the bytes that stand to be written until none is left, the wire takes no more, or it fails.
+fn flush<W: Wire>(session: &mut Session, wire: &mut W) -> Flushed
+    ensures bytes { Flushes session.old.outgoing session.new.outgoing (W.tells wire.old) (W.tells wire.new) result }
+    ensures others { session.new ≡ record session.old { outgoing = session.new.outgoing } }
+{
+    'bytes: while !session.unsent().is_empty() {
+        match wire.try_write(session.unsent()) {
+            TryWrite::Put(count) => session.sent(count),
+            TryWrite::Nothing => return Flushed::Full,
+            TryWrite::Failed => return Flushed::Failed,
+        }
+    }
+    Flushed::All
+}
 
 /// A gateway: its seat, the session, the bytes read and not yet fed, counts of turns, and room for an output's body.
 /// Contracts see an `AtRings`.
@@ -158,6 +173,13 @@ impl Gateway {
             Take::Passed => Turned::Worked,
             Take::Nothing => Turned::Quiet,
         }
+    }
+
+    /// Its number, which is that of its client: 1 to 8.
+    pub fn number(&self) -> u64
+        ensures { result ≡ number self.now.seat }
+    {
+        self.seat.number()
     }
 
     /// Whether it waits for its client: for the Logon, or for the rest of a message.

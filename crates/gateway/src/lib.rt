@@ -3,9 +3,7 @@
 //! gateway waits for another thread, and none but `new` takes memory.
 #![tactic(auto)]
 
-mod acceptor;
 mod ending;
-mod flushing;
 mod gateway;
 mod hearing;
 mod held;
@@ -15,7 +13,6 @@ mod refusal;
 mod seat;
 mod session;
 
-pub use acceptor::Acceptor;
 pub use ending::{Reason, Turned};
 pub use gateway::Gateway;
 pub use wires::{

@@ -1,5 +1,6 @@
 //! What the four stages have in common: each sits at rings, is polled there, and knows how far it is.
 ghost use Rattle.ring_words.specs.At.{IsAt};
+ghost use Rattle.std.proofs.Props.{props};
 
 use crate::journaller::Journaller;
 use crate::marshaller::Marshaller;
@@ -16,6 +17,9 @@ pub trait Stage<R> {
 
     /// That it sits at these rings.
     ghost sits: { R → Self → Type 0 };
+
+    /// That has one proof at most.
+    ghost sits_once: { (rings : R) (x : Self) → IsProp (sits rings x) };
 
     /// What else polls at these rings come to, one or many of them.
     ghost goes: { R → Self → Self → Type 0 };
@@ -43,6 +47,8 @@ impl<const N: usize, const M: usize, const G: usize> Stage<Rings<BookLogic, N, M
 
     ghost sits = { λ rings x. IsAt rings x };
 
+    ghost sits_once = { λ rings x. Prim.hlevel props };
+
     ghost goes = { λ rings x y. Unit {0} };
 
     ghost further = { λ rings x y z first second. tt };
@@ -67,6 +73,8 @@ impl<D: JournalDisk, const N: usize, const M: usize, const G: usize> Stage<
 
     ghost sits = { λ rings x. IsAt rings x.seat };
 
+    ghost sits_once = { λ rings x. Prim.hlevel props };
+
     ghost goes = { λ rings x y. JournalsOn N rings (device D.honest D.tells D.failed) x y };
 
     ghost further = { λ rings x y z first second. goes_on N (device D.honest D.tells D.failed) rings x y z first second };
@@ -88,6 +96,8 @@ impl<const N: usize, const M: usize, const G: usize> Stage<Rings<BookLogic, N, M
 
     ghost sits = { λ rings x. IsAt rings x.seat };
 
+    ghost sits_once = { λ rings x. Prim.hlevel props };
+
     ghost goes = { λ rings x y. Unit {0} };
 
     ghost further = { λ rings x y z first second. tt };
@@ -108,6 +118,8 @@ impl<const N: usize, const M: usize, const G: usize> Stage<Rings<BookLogic, N, M
     ghost use Rattle.stages.specs.Marshals.{Marshals};
 
     ghost sits = { λ rings x. IsAt rings x };
+
+    ghost sits_once = { λ rings x. Prim.hlevel props };
 
     ghost goes = { λ rings x y. Unit {0} };
 

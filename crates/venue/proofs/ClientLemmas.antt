@@ -9,14 +9,14 @@ use Rattle.venue_model.specs.History.{History}
 use Rattle.venue_model.specs.Requests.{Limits}
 use Rattle.disks.specs.Disk.{Told, LeavesOnly}
 use Rattle.disks.specs.MomentLaws.{started, joined, weaker}
-use Rattle.gateway.specs.Accepting.{Accepting, without_client}
+use Rattle.venue.specs.Accepting.{Accepting, without_client}
 use Rattle.gateway.specs.Gateways.{AtRings, begun}
 use Rattle.gateway.specs.Turns.{Front}
 use Rattle.gateway.specs.Visits.{DayPart, WasServed, IsFirstOf, acts_in, reports_by, reports_for}
 use Rattle.gateway.specs.declared.ending.Turned.{Turned}
-use Rattle.gateway.proofs.LifeLemmas.{Life, life-begins, life-admits}
-use Rattle.gateway.proofs.ServedLemmas.{life-serves, life-kept, life-gone}
-use Rattle.gateway.proofs.TurnLives.{goes_on}
+use Rattle.venue.proofs.LifeLemmas.{Life, life-begins, life-admits}
+use Rattle.venue.proofs.WholeLives.{life-serves, life-kept, life-gone}
+use Rattle.venue.proofs.TurnLives.{goes_on}
 use Rattle.journal.specs.Journals.{IsJournalFrom}
 use Rattle.ring_words.specs.At.{Opened, At}
 use Rattle.ring_words.specs.Ending.{IsBeginning}

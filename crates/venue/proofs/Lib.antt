@@ -3,6 +3,10 @@ pub mod ServingLemmas
 pub mod MemberLemmas
 mod KeepingLemmas
 mod HeadlineLemmas
+mod LifeLemmas
+mod TurnLives
+mod WholeLives
+mod VisitLaws
 mod ServedLemmas
 mod ListeningLemmas
 mod ClientLemmas

@@ -8,7 +8,7 @@ use Rattle.venue_model.specs.History.{History}
 use Rattle.venue_model.specs.ListLaws.{stands}
 use Rattle.venue_model.specs.Requests.{Limits}
 use Rattle.book.specs.Histories.{outputs_of}
-use Rattle.gateway.proofs.VisitLaws.{serves}
+use Rattle.venue.proofs.VisitLaws.{serves}
 use Rattle.gateway.specs.Visits.{DayPart, WasServed, IsFirstOf, acts_in, reports_by, reports_for}
 use Rattle.ring_words.specs.At.{Opened, At}
 use Rattle.ring_words.specs.Ending.{Ended, IsBeginning}

@@ -3,7 +3,7 @@ use Rattle.std.proofs.Common.{◌≡◌, ℕ, true, List, [], ◌++◌, Option, 
 use Rattle.std.proofs.Common.{append_assoc}
 use Rattle.std.specs.Prelude.{option_to_list}
 use Rattle.venue_model.specs.Requests.{Limits}
-use Rattle.gateway.specs.Accepting.{Accepting, AttendsClients, without_client}
+use Rattle.venue.specs.Accepting.{Accepting, AttendsClients, without_client}
 use Rattle.ring_words.specs.At.{Opened, At, IsAt}
 use Rattle.venue.specs.Leaving.{LeaveOn}
 use Rattle.venue.specs.Trading.{TradesOn, GivesBack, IsBack}

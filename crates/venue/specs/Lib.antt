@@ -11,6 +11,9 @@ pub mod Rounds
 pub mod Serving
 pub mod CrashLaws
 pub mod Leaving
+pub mod Accepting
+pub mod AcceptingLaws
+pub mod Visiting
 pub mod Silences
 pub mod Trading
 pub mod Turning

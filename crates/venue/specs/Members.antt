@@ -1,5 +1,5 @@
--- The members of the listening venue: their posts and ports, and the seats and ports that come back from them.
-use Rattle.std.specs.Prelude.{◌≡◌, ◌≤◌, ◌<◌, ℕ, ◌+◌, true, false, List, [], ◌∷◌, ◌++◌, vec_len, None, Box}
+-- The members of the listening venue: their doors and ports, and the seats and ports that come back from them.
+use Rattle.std.specs.Prelude.{◌≡◌, ◌≤◌, ◌<◌, ℕ, ◌+◌, true, false, List, [], ◌∷◌, ◌++◌, vec_len, Box}
 use Rattle.std.specs.Global.{Global}
 use Rattle.std.specs.Vec.{vec_capacity}
 use mathlib.Core.Option.{some}
@@ -7,23 +7,24 @@ use lib.ListN.{get_elem?}
 use Rattle.venue_model.specs.Requests.{Limits}
 use Rattle.ring_words.specs.At.{Opened, At, IsAt}
 use Rattle.ring_words.specs.declared.view.Role.TheVariants.{Gateway}
-use Rattle.gateway.specs.Accepting.{without_client}
+use Rattle.venue.specs.Accepting.{without_client}
+use Rattle.gateway.specs.Gateways.{AtRings}
 use Rattle.venue.specs.Headline.{in_box}
 use Rattle.venue.specs.Trading.{IsBack}
-use Rattle.venue.specs.declared.member.Post.{Post}
 use Rattle.venue.specs.declared.members.Home.{Home}
 use Rattle.venue.specs.declared.members.Members.{Members}
-use Rattle.venue.specs.Leaving.{told_leaving}
+use Rattle.venue.specs.declared.visitor.Visitor.{Visitor}
+use Rattle.venue.specs.declared.visitor.Visitor.TheVariants.{Nobody}
 use Rattle.wires.specs.Ports.{Register}
-use Rattle.wires.specs.Wires.{Told}
 
--- the post of gateway k of these rings as they were opened
-abbrev pub IsPost : {W : Type 0} → Opened Limits → (W → Told) → ℕ → Post W → Type 0
-IsPost rings tells k p = (p.number ≡ k) × (p.desk.value.acceptor ≡ without_client rings k) × (told_leaving tells p.desk.value.leaving ≡ None)
+-- the door of gateway k of these rings as they were opened, at which nobody is
+abbrev pub IsDoor : {W : Type 0} → Opened Limits → ℕ → AtRings × Box (Visitor W) Global → Type 0
+IsDoor rings k door = (door.0 ≡ (without_client rings k).gateway) × (door.1.value ≡ Nobody)
 
--- such posts, in the order of their gateways' numbers
-abbrev pub ArePosts : {W : Type 0} → Opened Limits → (W → Told) → List (Post W) → Type 0
-ArePosts rings tells posts = (i : ℕ) (p : Post _) → get_elem? posts i ≡ some p → IsPost rings tells (i + 1) p
+-- such doors, in the order of their gateways' numbers
+abbrev pub AreDoors : {W : Type 0} → Opened Limits → List (AtRings × Box (Visitor W) Global) → Type 0
+AreDoors rings doors =
+    (i : ℕ) (door : AtRings × Box (Visitor _) Global) → get_elem? doors i ≡ some door → IsDoor rings (i + 1) door
 
 -- no client's wire is out at these ports
 abbrev pub AreFree : {X : Type 0} → (X → Register) → List X → Type 0
@@ -42,25 +43,25 @@ AreBack rings tells old seats new = (i : ℕ) (s : At Limits) (x y : _) → get_
     → get_elem? new i ≡ some y → IsBack rings (i + 1) s (tells x) (tells y)
 
 -- Members as they are before anybody is served: at these rings, each with its port, which is open, and with lists in which there is room for all seats and ports.
-pub record AreReady {W X : Type 0} (rings : Opened Limits) (wires : W → Told) (tells : X → Register) (m : Members W X) : Type 0 where
-  pub posts : ArePosts rings wires m.posts.items
-  pub ports : vec_len m.ports ≡ vec_len m.posts
+pub record AreReady {W X : Type 0} (rings : Opened Limits) (tells : X → Register) (m : Members W X) : Type 0 where
+  pub doors : AreDoors rings m.doors.items
+  pub ports : vec_len m.ports ≡ vec_len m.doors
   pub opened : AreOpen (in_box tells) m.ports.items
   pub free : AreFree (in_box tells) m.ports.items
   pub empty : (m.home.seats.items ≡ []) × (m.home.ports.items ≡ [])
-  pub room : (vec_len m.posts ≤ vec_capacity m.home.seats) × (vec_len m.posts ≤ vec_capacity m.home.ports)
+  pub room : (vec_len m.doors ≤ vec_capacity m.home.seats) × (vec_len m.doors ≤ vec_capacity m.home.ports)
 
 -- the last of them has this port, and these are the others
 pub record IsLast {W X : Type 0} (all others : Members W X) (port : Box X Global) : Type 0 where
-  pub posts : vec_len all.posts ≡ vec_len others.posts + 1
+  pub doors : vec_len all.doors ≡ vec_len others.doors + 1
   pub ports : all.ports.items ≡ others.ports.items ++ port ∷ []
   pub home : others.home ≡ all.home
 
 -- All of them have traded, and are home.
 pub record AreHome {W X : Type 0} (rings : Opened Limits) (tells : X → Register) (m : Members W X) (h : Home X) : Type 0 where
   pub back : AreBack rings (in_box tells) m.ports.items h.seats.items h.ports.items
-  pub seats : vec_len h.seats ≡ vec_len m.posts
-  pub ports : vec_len h.ports ≡ vec_len m.posts
+  pub seats : vec_len h.seats ≡ vec_len m.doors
+  pub ports : vec_len h.ports ≡ vec_len m.doors
   pub room : (vec_capacity h.seats ≡ vec_capacity m.home.seats) × (vec_capacity h.ports ≡ vec_capacity m.home.ports)
 
 -- the seats that came back are of these rings, have their gateways' numbers, and no claims

@@ -1,30 +1,31 @@
 -- What a member's worker comes to: its gateway goes on at its place, with one client behind the other, who come in at its port and leave there.
-use Rattle.std.specs.Prelude.{◌≡◌, ◌↔◌, ℕ, ◌+◌, Bool, true, false, if◌then◌else◌, List, [], ◌++◌, Option, Some, None, option_to_list}
+use Rattle.std.specs.Prelude.{◌≡◌, ◌↔◌, ℕ, Bool, true, false, List, [], ◌++◌, Option, option_to_list}
 use Rattle.venue_model.specs.Requests.{Limits}
-use Rattle.gateway.specs.Accepting.{Accepting, AttendsClients, TakesTurn, without_client}
+use Rattle.venue.specs.Accepting.{Accepting, AttendsClients, TakesTurn, without_client}
+use Rattle.gateway.specs.Gateways.{AtRings}
 use Rattle.gateway.specs.declared.ending.Turned.{Turned}
 use Rattle.gateway.specs.declared.ending.Turned.TheVariants.{Quiet}
 use Rattle.ring_words.specs.At.{Opened, At, IsAt}
 use Rattle.ring_words.specs.declared.view.Role.TheVariants.{Gateway}
-use Rattle.venue.specs.Leaving.{LeaveOn, told_leaving}
-use Rattle.venue.specs.declared.leaving.Leaving.{Leaving}
+use Rattle.venue.specs.Leaving.{LeaveOn}
+use Rattle.venue.specs.Visiting.{at_gateway, told_leaver}
+use Rattle.venue.specs.declared.visitor.Visitor.{Visitor}
 use Rattle.wires.specs.Ports.{Register, with_more}
 use Rattle.wires.specs.Wires.{Told}
 
--- a member: its acceptor, what the wire of a client tells that leaves, and what its port tells
+-- a member: its gateway with the client that is there, what the wire of one tells that leaves, and what its port tells
 pub record AtPort : Type 0 where
-  pub acceptor : Accepting
+  pub served : Accepting
   pub leaving : Option Told
   pub register : Register
 
-abbrev pub at_port : {W X : Type 0} → (W → Told) → (X → Register) → Accepting → Option (Leaving W) → X → AtPort
-at_port wire_tells port_tells acceptor leaving port =
-    record { acceptor = acceptor; leaving = told_leaving wire_tells leaving; register = port_tells port }
-
--- how many there are of one who may be there
-abbrev pub present : Option Told → ℕ
-present None = 0
-present (Some told) = 1
+abbrev pub at_port : {W X : Type 0} → (W → Told) → (X → Register) → AtRings → Visitor W → X → AtPort
+at_port wire_tells port_tells gateway visitor port =
+    record {
+      served = at_gateway wire_tells gateway visitor;
+      leaving = told_leaver wire_tells visitor;
+      register = port_tells port;
+    }
 
 -- the gateway took one turn, and this is whether it found something to do
 abbrev pub TookTurn : Accepting → Accepting → Bool → Type 0
@@ -33,10 +34,6 @@ TookTurn old new moved = (turned : Turned) × (gone : Option Told) × TakesTurn 
 -- a look at the port that showed no client was the last thing there
 abbrev pub LookedLast : {X : Type 0} → (X → X → Type 0) → X → Type 0
 LookedLast looked new = (before : _) × looked before new
-
--- one client at most is there or leaves, and its wire is out just then
-abbrev pub HasClient : Option Told → Option Told → Bool → Type 0
-HasClient wire leaving out = present wire + present leaving ≡ (if out then 1 else 0)
 
 -- at the end the port is given back the wire of the client that leaves, or of the one that is there
 abbrev pub GivesBack : Register → Register → Option Told → Option Told → Type 0
@@ -47,11 +44,11 @@ GivesBack old new leaving wire =
 -- those whose sessions ended, as they were then, and of those that the port got back: all whose sessions ended, but for one that still leaves.
 pub record TradesOn (rings : Opened Limits) (old : AtPort) (rings_after : Opened Limits) (new : AtPort) : Type 0 where
   pub rings_are : rings_after ≡ rings
-  pub role : new.acceptor.gateway.seat.who.role ≡ old.acceptor.gateway.seat.who.role
+  pub role : new.served.gateway.seat.who.role ≡ old.served.gateway.seat.who.role
   pub came : List Told
   pub ended : List Told
   pub gone : List Told
-  pub attends : AttendsClients 1024 old.acceptor new.acceptor came ended
+  pub attends : AttendsClients 1024 old.served new.served came ended
   pub number : new.register.number ≡ old.register.number
   pub is_open : new.register.is_open ≡ old.register.is_open
   pub handed_out : new.register.came ≡ with_more old.register.came came

@@ -2,7 +2,7 @@
 use Rattle.std.specs.Prelude.{◌≡◌, List, [], ◌∷◌, ◌++◌, Option, Some, None, option_to_list}
 use Rattle.std.proofs.Common.{refl, ap, sym, subst, ◌∙◌, append_assoc, append-nil}
 use Rattle.venue_model.specs.Requests.{Limits}
-use Rattle.gateway.specs.AcceptingLaws.{still, further}
+use Rattle.venue.specs.AcceptingLaws.{still, further}
 use Rattle.ring_words.specs.At.{Opened}
 use Rattle.venue.specs.Leaving.{LeavesOn, LeaveOn}
 use Rattle.venue.specs.Trading.{AtPort, TradesOn}
@@ -58,7 +58,7 @@ no_turn rings a = record {
   came = [];
   ended = [];
   gone = [];
-  attends = still 1024 a.acceptor;
+  attends = still 1024 a.served;
   number = refl;
   is_open = refl;
   handed_out = sym (more-nil a.register.came);
@@ -81,7 +81,8 @@ more_turns r s t a b c first second =
       came = first.came ++ second.came;
       ended = first.ended ++ second.ended;
       gone = first.gone ++ second.gone;
-      attends = further 1024 a.acceptor b.acceptor c.acceptor first.came first.ended second.came second.ended first.attends second.attends;
+      attends = further 1024 a.served b.served c.served first.came first.ended second.came second.ended first.attends
+          second.attends;
       number = second.number ∙ first.number;
       is_open = second.is_open ∙ first.is_open;
       handed_out = second.handed_out ∙ ap (λ k. with_more k second.came) first.handed_out

@@ -1,40 +1,31 @@
 -- What a member's turn comes to for its thread.
-use Rattle.std.specs.Prelude.{◌≡◌, ⊤, ℕ, ◌+◌, ◌%◌, Bool, true, false, not, ◌&&◌, ◌||◌, Option, is_some, if◌then◌else◌}
-use Rattle.gateway.specs.Accepting.{Accepting, WasFlushed}
-use Rattle.gateway.specs.Gateways.{is_pressed}
+use Rattle.std.specs.Prelude.{◌≡◌, ⊤, ℕ, ◌+◌, ◌%◌, Bool, true, false, Option, if◌then◌else◌}
+use Rattle.venue.specs.Accepting.{Accepting}
+use Rattle.gateway.specs.Gateways.{AtRings}
 use Rattle.venue.specs.Trading.{TookTurn}
-use Rattle.venue.specs.declared.member.Desk.{Desk}
+use Rattle.venue.specs.Visiting.{WasFlushed, is_ending_at}
+use Rattle.venue.specs.declared.visitor.Visitor.{Visitor}
 use Rattle.workers.specs.declared.worker.Outcome.{Outcome}
 use Rattle.workers.specs.declared.worker.Outcome.TheVariants.{Worked, Moved, Pressed, Idle, Over}
 use Rattle.wires.specs.Wires.{Told}
 
--- it counted a turn, modulo 65,536, and behind each 1,024th what waited in the client's wire was sent on, if a client is connected
+-- it counted a turn, modulo 65,536, and behind each 1,024th what waited in a client's wire was sent on, if one is there
 pub record SendsOn {W : Type 0} (tells : W → Told) (flushed : W → W → Type 0) (old new : ℕ) (wire : Option Told) : Type 0 where
   pub counts : new ≡ (old + 1) % 65536
   pub sends : new % 1024 ≡ 0 → WasFlushed tells flushed wire
 
--- the gateway took one turn at a desk, and behind it a turn was counted there, and sent on if it was time to
-pub record SentOn {W : Type 0} (tells : W → Told) (flushed : W → W → Type 0) (old new : Desk W) : Type 0 where
+-- the gateway took one turn, and behind it a turn was counted, and sent on if it was time to
+pub record SentOn {W : Type 0} (tells : W → Told) (flushed : W → W → Type 0) (old : Accepting)
+    (turns turns_after : ℕ) : Type 0 where
   pub behind : Accepting
   pub moved : Bool
-  pub took : TookTurn old.acceptor behind moved
-  pub sends : SendsOn tells flushed old.turns new.turns behind.wire
+  pub took : TookTurn old behind moved
+  pub sends : SendsOn tells flushed turns turns_after behind.wire
 
--- the gateway has to go on by itself with the client that leaves, or with the one that is connected
-abbrev pub is_pressed_at : {W : Type 0} → Desk W → Bool
-is_pressed_at desk = is_some desk.leaving || (is_some desk.acceptor.wire && is_pressed desk.acceptor.gateway.front)
-
--- Of a client that is connected, and none leaves, the gateway has to go on by itself, and not with a message that waits
--- for room: so its session is on its way to its end.
-abbrev pub is_ending_at : {W : Type 0} → Desk W → Bool
-is_ending_at desk =
-    not (is_some desk.leaving) &&
-    ((is_some desk.acceptor.wire && is_pressed desk.acceptor.gateway.front) &&
-    not (is_some desk.acceptor.gateway.front.session.held))
-
--- another client may be wanted only where nothing moved in the turn, and the session of the one that is connected is ending
-abbrev pub IsWantedWhere : {W : Type 0} → Bool → Desk W → Type 0
-IsWantedWhere has_moved desk = desk.is_wanted ≡ true → (has_moved ≡ false) × (is_ending_at desk ≡ true)
+-- another client may be wanted only where nothing moved in the turn, and the session of the one that is there is ending
+abbrev pub IsWantedWhere : {W : Type 0} → Bool → Bool → AtRings → Visitor W → Type 0
+IsWantedWhere has_moved wanted gateway visitor =
+    wanted ≡ true → (has_moved ≡ false) × (is_ending_at gateway visitor ≡ true)
 
 -- Where something moved, stages may have work only if it began with a message held, which it may have published. Where nothing moved it is to look again soon
 -- if it has to go on by itself, and at once if another client waits for that; else it may rest, since it is woken.

@@ -15,6 +15,7 @@ mod scripted;
 mod serving;
 mod silence;
 mod stop;
+mod visitor;
 mod watch;
 
 pub use cut_off::listen_cut_off;

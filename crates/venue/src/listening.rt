@@ -19,7 +19,7 @@ ghost use Rattle.venue.specs.Listening.{EndsListening, end_of};
 ghost use Rattle.stages.specs.Devices.{device};
 
 use crate::fault::ServeFault;
-use crate::members::{Home, Members, open_ports, open_posts, trade_all};
+use crate::members::{Home, Members, open_doors, open_ports, trade_all};
 use crate::opening::open;
 use crate::rings::VenueRings;
 use crate::stop::StopSign;
@@ -60,7 +60,7 @@ fn work_all<
     signals: &Signals,
 ) -> Left<D, X>
     requires crew { AreAt rings.now crew }
-    requires members { AreReady rings.now W.tells X.tells members }
+    requires members { AreReady rings.now X.tells members }
     ensures crew { WorksOn 1024 rings.now (device D.honest D.tells D.failed) crew result.0 }
     ensures home { AreHome rings.now X.tells members result.1 }
 {
@@ -70,7 +70,7 @@ fn work_all<
         rings,
         crew,
         move || -> Home<X>
-            requires { IsSync R.row × IsSync Q.row × IsSend W.row × IsSend X.row × AreReady rings.now W.tells X.tells members }
+            requires { IsSync R.row × IsSync Q.row × IsSend W.row × IsSend X.row × AreReady rings.now X.tells members }
             ensures { AreHome rings.entry.now X.tells members result }
         { trade_all(rt, gate, rings, alloc, members, signals) },
         signals,
@@ -100,7 +100,7 @@ fn serve_members<
 ) -> (Left<D, X>, bool)
     requires gateways { G ≤ 8 }
     requires crew { AreAt rings.now crew }
-    requires members { AreReady rings.now W.tells X.tells members }
+    requires members { AreReady rings.now X.tells members }
     ensures crew { WorksOn 1024 rings.now (device D.honest D.tells D.failed) crew result.0.0 }
     ensures home { AreHome rings.now X.tells members result.0.1 }
 {
@@ -114,7 +114,7 @@ fn serve_members<
         rt,
         move || -> Left<D, X>
             requires { IsSync R.row × IsSync Q.row × IsSend D.row × IsSend W.row × IsSend X.row × (AreAt rings.now crew)
-                × AreReady rings.now W.tells X.tells members }
+                × AreReady rings.now X.tells members }
             ensures { WorksOn 1024 rings.entry.now (device D.honest D.tells D.failed) crew result.0
                 × AreHome rings.entry.now X.tells members result.1 }
         { work_all(rt, gate, alloc, rings, crew, members, signals) },
@@ -193,7 +193,7 @@ fn open_members<W: ClientWire + Drop, X: Port<Wire = W> + Drop, const G: usize>(
     requires few { length rings.now.base ≤ 2 ^ 48 }
     requires seats { AreNewGateways rings.now seats.items }
     requires ports { (vec_len ports ≡ vec_len seats) × AreFree (in_box X.tells) ports.items }
-    ensures ready { IfOk result (AreReady rings.now W.tells X.tells) }
+    ensures ready { IfOk result (AreReady rings.now X.tells) }
     ensures ports { IfOk result (λ m. SamePorts (in_box X.tells) ports.items m.ports.items × (vec_len m.ports ≡ vec_len ports)) }
     ensures back { IfErr result (λ e. SamePorts (in_box X.tells) ports.items e.1.items × (vec_len e.1 ≡ vec_len ports)) }
     ensures fault { IfErr result (λ e. had_served e.0 ≡ false) }
@@ -201,14 +201,14 @@ fn open_members<W: ClientWire + Drop, X: Port<Wire = W> + Drop, const G: usize>(
     let Ok(room) = Vec::with_capacity(alloc, ports.len()) else {
         return Err((ServeFault::Memory, ports));
     };
-    let Ok((posts, seats)) = open_posts(alloc, rings, seats) else {
+    let Ok((doors, seats)) = open_doors(alloc, rings, seats) else {
         return Err((ServeFault::Memory, ports));
     };
     if let Err(fault) = open_ports(&mut ports) {
         return Err((fault, ports));
     }
     let home = Home { seats, ports: room };
-    Ok(Members { posts, ports, home })
+    Ok(Members { doors, ports, home })
 }
 
 /// Serves `G` members, each at its port, behind the history of the journal on the disk, until the sign to stop is

@@ -4,12 +4,11 @@ ghost use Rattle.std.specs.Prelude.{◌≡◌, ◌+◌, ◌≤◌, ◌<◌, ◌^
 ghost use Rattle.std.specs.Vec.{vec_capacity};
 ghost use Rattle.std.specs.Thread.{IsSync};
 ghost use denote.Param.Send.{IsSend};
-ghost use Rattle.ring_words.specs.At.{IsAt};
+ghost use Rattle.ring_words.specs.At.{IsAt, number};
 ghost use Rattle.ring_words.specs.Crew.{AreNewGateways};
 ghost use Rattle.ring_words.specs.declared.view.Role.TheVariants.{Gateway};
-ghost use Rattle.venue.specs.Members.{IsPost, ArePosts, IsLast, AreOpen, AreReady, AreHome};
+ghost use Rattle.venue.specs.Members.{IsDoor, AreDoors, IsLast, AreOpen, AreReady, AreHome};
 ghost use Rattle.venue.specs.Headline.{in_box, SamePorts};
-ghost use Rattle.gateway.specs.Accepting.{without_client};
 ghost use Rattle.venue.specs.Trading.{IsBack};
 ghost use Rattle.venue.specs.Faults.{had_served};
 ghost use Rattle.venue.specs.Opened.{AreBehind};
@@ -17,19 +16,19 @@ ghost use Rattle.venue.specs.VenueRings.{IsNew};
 ghost use Rattle.wires.specs.Ports.{unopened};
 
 use crate::fault::ServeFault;
-use crate::member::{Desk, Post, trade};
+use crate::member::{Door, trade};
 use crate::rings::VenueRings;
-use crate::silence::Silence;
+use crate::visitor::Visitor;
 use book::BookLogic;
-use gateway::{Acceptor, ClientWire, Port};
+use gateway::{ClientWire, Gateway, Port};
 use ring_words::GatewaySeat;
 use std::alloc::Global;
 use std::rt::Clock;
 use std::thread::{Threads, join};
 use workers::{Gate, Parks, Signals};
 
-/// The posts of a venue's members, and an empty list that has room for all seats when they come back.
-pub type Posts<W> = (Vec<Post<W>>, Vec<GatewaySeat<BookLogic>>);
+/// The doors of a venue's members, and an empty list that has room for all seats when they come back.
+pub type Doors<W> = (Vec<Door<W>>, Vec<GatewaySeat<BookLogic>>);
 
 /// What comes back of members: their seats and their ports, in the order of their numbers.
 #[derive(Drop)]
@@ -38,11 +37,11 @@ pub struct Home<X> {
     pub ports: Vec<Box<X>>,
 }
 
-/// All members, each with its post and its port, and the lists in which their seats and ports come back, which have
+/// All members, each with its door and its port, and the lists in which their seats and ports come back, which have
 /// room for them.
 #[derive(Drop)]
 pub struct Members<W: ClientWire + Drop, X> {
-    pub posts: Vec<Post<W>>,
+    pub doors: Vec<Door<W>>,
     pub ports: Vec<Box<X>>,
     pub home: Home<X>,
 }
@@ -89,16 +88,16 @@ pub fn open_ports<X: Port>(ports: &mut Vec<Box<X>>) -> Result<(), ServeFault>
     Ok(())
 }
 
-/// The posts of these seats. The fault is 44.
-pub fn open_posts<W: ClientWire + Drop, const G: usize>(
+/// The doors at these seats, at which nobody is yet. The fault is 44.
+pub fn open_doors<W: ClientWire + Drop, const G: usize>(
     alloc: Global,
     rings: &VenueRings<G>,
     mut seats: Vec<GatewaySeat<BookLogic>>,
-) -> Result<Posts<W>, ServeFault>
+) -> Result<Doors<W>, ServeFault>
     requires behind { AreBehind rings.now.logic rings.now.base rings.now }
     requires few { length rings.now.base ≤ 2 ^ 48 }
     requires seats { AreNewGateways rings.now seats.items }
-    ensures posts { IfOk result (λ r. ArePosts rings.now W.tells r.0.items) }
+    ensures doors { IfOk result (λ r. AreDoors rings.now r.0.items) }
     ensures count { IfOk result (λ r. vec_len r.0 ≡ vec_len seats) }
     ensures home { IfOk result (λ r. (r.1.items ≡ []) × (vec_capacity r.1 ≡ vec_capacity seats)) }
     ensures fault { IfErr result (λ fault. fault ≡ ServeFault.Memory) }
@@ -106,62 +105,52 @@ pub fn open_posts<W: ClientWire + Drop, const G: usize>(
     let Some(seat) = last_seat(rings, &mut seats) else {
         return Ok((Vec::new(alloc), seats));
     };
-    let (posts, home) = open_posts(alloc, rings, seats)?;
-    let posts = with_post(alloc, rings, posts, seat)?;
-    Ok((posts, home))
+    let (doors, home) = open_doors(alloc, rings, seats)?;
+    let doors = with_door(alloc, rings, doors, seat)?;
+    Ok((doors, home))
 }
 
-/// These posts and one more behind them, of this seat.
-fn with_post<W: ClientWire + Drop, const G: usize>(
+/// These doors and one more behind them, of this seat.
+fn with_door<W: ClientWire + Drop, const G: usize>(
     alloc: Global,
     rings: &VenueRings<G>,
-    mut posts: Vec<Post<W>>,
+    mut doors: Vec<Door<W>>,
     seat: GatewaySeat<BookLogic>,
-) -> Result<Vec<Post<W>>, ServeFault>
+) -> Result<Vec<Door<W>>, ServeFault>
     requires behind { AreBehind rings.now.logic rings.now.base rings.now }
     requires few { length rings.now.base ≤ 2 ^ 48 }
-    requires posts { ArePosts rings.now W.tells posts.items }
-    requires seat { IsNew rings.now (vec_len posts + 1) seat }
-    ensures posts { IfOk result (λ r. ArePosts rings.now W.tells r.items) }
-    ensures count { IfOk result (λ r. vec_len r ≡ vec_len posts + 1) }
+    requires doors { AreDoors rings.now doors.items }
+    requires seat { IsNew rings.now (vec_len doors + 1) seat }
+    ensures doors { IfOk result (λ r. AreDoors rings.now r.items) }
+    ensures count { IfOk result (λ r. vec_len r ≡ vec_len doors + 1) }
     ensures fault { IfErr result (λ fault. fault ≡ ServeFault.Memory) }
 {
     let _rings = rings;
-    let number = seat.number();
-    let Ok(acceptor) = Acceptor::new(alloc, seat) else {
+    let Ok(gateway) = Gateway::new(alloc, seat) else {
         return Err(ServeFault::Memory);
     };
-    let Ok(desk) = Box::new(
-        alloc,
-        Desk {
-            acceptor,
-            leaving: None,
-            silence: Silence::none(),
-            turns: 0,
-            is_wanted: false,
-        },
-    ) else {
+    let Ok(visitor) = Box::new(alloc, Visitor::Nobody) else {
         return Err(ServeFault::Memory);
     };
-    match posts.push(Post { number, desk }) {
-        Ok(()) => Ok(posts),
+    match doors.push((gateway, visitor)) {
+        Ok(()) => Ok(doors),
         Err(_) => Err(ServeFault::Memory),
     }
 }
 
-/// The last post.
-fn last_post<W: ClientWire + Drop, const G: usize>(
+/// The last door.
+fn last_door<W: ClientWire + Drop, const G: usize>(
     rings: &VenueRings<G>,
-    posts: &mut Vec<Post<W>>,
-) -> Option<Post<W>>
-    requires { ArePosts rings.now W.tells posts.old.items }
-    ensures left { ArePosts rings.now W.tells posts.new.items }
-    ensures last { IfSome result (λ post. IsPost rings.now W.tells (vec_len posts.old) post) }
-    ensures count { MatchOption result (vec_len posts.old ≡ 0) (λ post. vec_len posts.old ≡ vec_len posts.new + 1) }
+    doors: &mut Vec<Door<W>>,
+) -> Option<Door<W>>
+    requires { AreDoors rings.now doors.old.items }
+    ensures left { AreDoors rings.now doors.new.items }
+    ensures last { IfSome result (λ door. IsDoor rings.now (vec_len doors.old) door) }
+    ensures count { MatchOption result (vec_len doors.old ≡ 0) (λ door. vec_len doors.old ≡ vec_len doors.new + 1) }
 {
     let _rings = rings;
-    let post = posts.pop()?;
-    Some(post)
+    let door = doors.pop()?;
+    Some(door)
 }
 
 /// What came back, and the next member's seat and port.
@@ -184,7 +173,7 @@ fn with_member<X: Port>(home: Home<X>, seat: GatewaySeat<BookLogic>, port: Box<X
 #[derive(Drop)]
 struct Split<W: ClientWire + Drop, X> {
     others: Members<W, X>,
-    post: Post<W>,
+    door: Door<W>,
     port: Box<X>,
 }
 
@@ -193,26 +182,26 @@ fn split_last<W: ClientWire + Drop, X: Port<Wire = W> + Drop, const G: usize>(
     rings: &VenueRings<G>,
     members: Members<W, X>,
 ) -> Result<Split<W, X>, Home<X>>
-    requires { AreReady rings.now W.tells X.tells members }
-    ensures others { IfOk result (λ s. AreReady rings.now W.tells X.tells s.others) }
-    ensures post { IfOk result (λ s. IsPost rings.now W.tells (vec_len members.posts) s.post) }
+    requires { AreReady rings.now X.tells members }
+    ensures others { IfOk result (λ s. AreReady rings.now X.tells s.others) }
+    ensures door { IfOk result (λ s. IsDoor rings.now (vec_len members.doors) s.door) }
     ensures port { IfOk result (λ s. ((X.tells s.port.value).is_open ≡ true) × ((X.tells s.port.value).out ≡ false)) }
     ensures whole { IfOk result (λ s. IsLast members s.others s.port) }
     ensures none { IfErr result (λ home. AreHome rings.now X.tells members home) }
 {
     let Members {
-        mut posts,
+        mut doors,
         mut ports,
         home,
     } = members;
-    let Some(post) = last_post(rings, &mut posts) else {
+    let Some(door) = last_door(rings, &mut doors) else {
         return Err(home);
     };
     let Some(port) = ports.pop() else {
         return Err(home);
     };
-    let others = Members { posts, ports, home };
-    Ok(Split { others, post, port })
+    let others = Members { doors, ports, home };
+    Ok(Split { others, door, port })
 }
 
 /// Lets all members trade, each at its port on a thread of its own, until the signals say stop. While threads run no
@@ -231,24 +220,24 @@ pub fn trade_all<
     members: Members<W, X>,
     signals: &Signals,
 ) -> Home<X>
-    requires { AreReady rings.now W.tells X.tells members }
+    requires { AreReady rings.now X.tells members }
     ensures { AreHome rings.now X.tells members result }
 {
-    let Split { others, post, port } = match split_last(rings, members) {
+    let Split { others, door, port } = match split_last(rings, members) {
         Ok(split) => split,
         Err(home) => return home,
     };
     let (home, (seat, port)) = join(
         rt,
         move || -> Home<X>
-            requires { IsSync R.row × IsSync Q.row × IsSend W.row × IsSend X.row × AreReady rings.now W.tells X.tells others }
+            requires { IsSync R.row × IsSync Q.row × IsSend W.row × IsSend X.row × AreReady rings.now X.tells others }
             ensures { AreHome rings.entry.now X.tells others result }
         { trade_all(rt, gate, rings, alloc, others, signals) },
         move || -> (GatewaySeat<BookLogic>, Box<X>)
-            requires { IsSync R.row × IsSync Q.row × IsSend W.row × IsSend X.row × IsPost rings.now W.tells post.number post
+            requires { IsSync R.row × IsSync Q.row × IsSend W.row × IsSend X.row × IsDoor rings.now (number door.0.seat) door
                 × ((X.tells port.value).is_open ≡ true) × ((X.tells port.value).out ≡ false) }
-            ensures { IsBack rings.entry.now post.number result.0 (X.tells port.value) (X.tells result.1.value) }
-        { trade(rt, gate, rings, alloc, post, port, signals) },
+            ensures { IsBack rings.entry.now (number door.0.seat) result.0 (X.tells port.value) (X.tells result.1.value) }
+        { trade(rt, gate, rings, alloc, door, port, signals) },
     );
     with_member(home, seat, port)
 }

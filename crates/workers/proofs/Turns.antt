@@ -1,4 +1,4 @@
--- One turn more, the last one, and all of them without the rests between.
+-- One turn more, the last one, and the turns of a worker as those of a part of it.
 use Rattle.std.proofs.Common.{◌≡◌, ◌∙◌, ℕ, zero, suc, ◌+◌, Bool, true, false, ap, sym, subst, refl, add-one}
 use Rattle.workers.specs.declared.worker.Outcome.{Outcome}
 use Rattle.workers.specs.declared.worker.Outcome.TheVariants.{Worked, Moved, Idle, Pressed, Over}
@@ -27,16 +27,22 @@ module _ {W P : Type 0} (took : Outcome → W → W → Type 0) (m : Moments P) 
   the_last ends = subst (λ (o : Outcome). TurnAndRest took m o mid new) (is_over outcome (sym is ∙ ends))
       (record { takes = turn; rests = rest })
 
--- the turns without the rests
-module _ {W P : Type 0} (took : Outcome → W → W → Type 0) (m : Moments P) (told : Type 0) where
-  turns_alone : (k : ℕ) (old new : Thread W P) → TakesTurns (TurnAndRest took m) k old new
-      → TakesTurns took k old.worker new.worker
-  turns_alone zero old new same = ap (λ (t : Thread W P). t.worker) same
-  turns_alone (suc k) old new (mid, before, (outcome, goes, turn)) =
-      (mid.worker, turns_alone k old mid before, (outcome, goes, turn.takes))
+-- The turns of a worker as those of a part of it, where each turn is one of that part, as long as something holds of it
+-- that each turn keeps.
+module _ {V W : Type 0} (took : Outcome → V → V → Type 0) (part_took : Outcome → W → W → Type 0) (part : V → W)
+    (Holds : V → Type 0)
+    (turn : (o : Outcome) (x y : V) → Holds x → took o x y → Holds y × part_took o (part x) (part y)) where
+  turns_of : (k : ℕ) (old new : V) → Holds old → TakesTurns took k old new
+      → Holds new × TakesTurns part_took k (part old) (part new)
+  turns_of zero old new holds same = (subst Holds (sym same) holds, ap part same)
+  turns_of (suc k) old new holds (mid, before, (outcome, goes, last)) =
+      let so_far = turns_of k old mid holds before in
+      let behind = turn outcome mid new so_far.0 last in
+      (behind.0, (part mid, so_far.1, (outcome, goes, behind.1)))
 
-  pub ends_alone : (why : Ended) (old new : Thread W P) → Ends (TurnAndRest took m) told why old new
-      → Ends took told why old.worker new.worker
-  ends_alone ended.Over old new (k, mid, before, turn) = (k, mid.worker, turns_alone k old mid before, turn.takes)
-  ends_alone ended.Told old new (has, (k, turns)) = (has, (k, turns_alone k old new turns))
-  ends_alone ended.TookAll old new (k, is, turns) = (k, is, turns_alone k old new turns)
+  pub ends_of : (told : Type 0) (why : Ended) (old new : V) → Holds old → Ends took told why old new
+      → Ends part_took told why (part old) (part new)
+  ends_of told ended.Over old new holds (k, mid, before, last) =
+      let so_far = turns_of k old mid holds before in (k, part mid, so_far.1, (turn Over mid new so_far.0 last).1)
+  ends_of told ended.Told old new holds (has, (k, turns)) = (has, (k, (turns_of k old new holds turns).1))
+  ends_of told ended.TookAll old new holds (k, is, turns) = (k, is, (turns_of k old new holds turns).1)

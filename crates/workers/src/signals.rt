@@ -97,52 +97,6 @@ impl Signals {
         }
     }
 
-    /// This worker has begun, and its thread is woken so, if it can be. The last one wakes the others, which wait for
-    /// it.
-    pub fn begin(&self, worker: Station, waker: Option<Waker>) {
-        if let Some(waker) = waker {
-            let _ = self.wakers[place(worker)].try_set(waker);
-        }
-        self.begun.fetch_add(1, Ordering::SeqCst);
-        if self.have_all_begun() {
-            self.wake(u64::MAX);
-        }
-    }
-
-    /// Whether all workers have begun. A worker for which the system makes no thread begins only when another has
-    /// ended.
-    pub fn have_all_begun(&self) -> bool {
-        self.begun.load(Ordering::SeqCst) >= self.workers
-    }
-
-    /// This worker rests from now on: it is to be woken where there may be work for it.
-    pub fn announce(&self, worker: Station) {
-        self.asleep.fetch_or(own(worker), Ordering::SeqCst);
-    }
-
-    /// This worker did something, and rests no more: those that rest and may have work by that are woken. Where none
-    /// does this is one load.
-    pub fn rouse(&self, worker: Station) {
-        let resting = self.asleep.load(Ordering::SeqCst);
-        if resting & own(worker) != 0 {
-            self.asleep.fetch_and(!own(worker), Ordering::SeqCst);
-        }
-        if resting & wakes(worker) != 0 {
-            self.wake(wakes(worker));
-        }
-    }
-
-    /// Until when threads are shy, as one of them told, in nanoseconds of a clock that all of them read; 0 before that.
-    pub fn shy_until(&self) -> u64 {
-        self.shy_until.load(Ordering::SeqCst)
-    }
-
-    /// All threads are shy until then, by that clock. The latest end that was told stays: of two threads that tell at
-    /// the same time, the one that was away for longer.
-    pub fn turn_shy(&self, until: u64) {
-        self.shy_until.fetch_max(until, Ordering::SeqCst);
-    }
-
     /// Wakes those of these that rest, each of them once: who clears its bit wakes it.
     fn wake(&self, them: u64) {
         let rested = self.asleep.fetch_and(!them, Ordering::SeqCst) & them;
@@ -161,17 +115,6 @@ impl Signals {
             let _ = waker.wake();
         }
     }
-
-    /// Tells all workers to end behind their turns. Those that rest are woken.
-    pub fn stop(&self) {
-        self.stop.store(true, Ordering::SeqCst);
-        self.wake(u64::MAX);
-    }
-
-    /// Whether all workers are to end.
-    pub fn say_stop(&self) -> bool {
-        self.stop.load(Ordering::SeqCst)
-    }
 }
 
 impl Signalling for Signals {
@@ -183,35 +126,51 @@ impl Signalling for Signals {
 
     ghost told = { λ signals. Unit {0} };
 
+    /// The last one wakes the others, which wait for it.
     fn begin(&self, worker: Station, waker: Option<Waker>) {
-        self.begin(worker, waker);
+        if let Some(waker) = waker {
+            let _ = self.wakers[place(worker)].try_set(waker);
+        }
+        self.begun.fetch_add(1, Ordering::SeqCst);
+        if self.have_all_begun() {
+            self.wake(u64::MAX);
+        }
     }
 
     fn have_all_begun(&self) -> bool {
-        self.have_all_begun()
+        self.begun.load(Ordering::SeqCst) >= self.workers
     }
 
     fn announce(&self, worker: Station) {
-        self.announce(worker);
+        self.asleep.fetch_or(own(worker), Ordering::SeqCst);
     }
 
+    /// Where none rests that may have work by that, this is one load.
     fn rouse(&self, worker: Station) {
-        self.rouse(worker);
+        let resting = self.asleep.load(Ordering::SeqCst);
+        if resting & own(worker) != 0 {
+            self.asleep.fetch_and(!own(worker), Ordering::SeqCst);
+        }
+        if resting & wakes(worker) != 0 {
+            self.wake(wakes(worker));
+        }
     }
 
     fn shy_until(&self) -> u64 {
-        self.shy_until()
+        self.shy_until.load(Ordering::SeqCst)
     }
 
+    /// The latest end that was told stays: of two threads that tell at the same time, the one that was away for longer.
     fn turn_shy(&self, until: u64) {
-        self.turn_shy(until);
+        self.shy_until.fetch_max(until, Ordering::SeqCst);
     }
 
     fn stop(&self) {
-        self.stop();
+        self.stop.store(true, Ordering::SeqCst);
+        self.wake(u64::MAX);
     }
 
     fn say_stop(&self) -> bool {
-        self.say_stop()
+        self.stop.load(Ordering::SeqCst)
     }
 }

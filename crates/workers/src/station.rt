@@ -1,15 +1,13 @@
-//! A stage, whichever of the four it is, at its station: the thread that calls polls it until it is told to stop.
+//! A stage, whichever of the four it is, at its station: the thread that calls lets the stage work as a worker until
+//! the signals say stop.
 ghost use Rattle.std.specs.Prelude.{◌≡◌};
-ghost use Rattle.workers.specs.Resting.{moments};
-ghost use Rattle.workers.specs.Working.{Ends, TurnAndRest, thread};
+ghost use Rattle.workers.specs.Working.{Ends};
 ghost use Rattle.workers.specs.Polling.{outcome_of, PollsAs};
 
 use crate::gate::{Gate, Station};
 use crate::parking::Parks;
-use crate::rest::{Pauses, Rest};
 use crate::signals::Signalling;
-use crate::sleeper::Sleeper;
-use crate::worker::{Ended, Outcome};
+use crate::worker::{Ended, Outcome, Worker, work};
 use stages::{Stage, Turn};
 use std::rt::Clock;
 
@@ -25,54 +23,42 @@ fn outcome(turn: Turn) -> Outcome
     }
 }
 
-/// Polls the stage once, and tells the `Gate` of it.
-fn poll_at<Q: Gate, R, S: Stage<R>>(gate: &Q, rings: &R, station: Station, stage: &mut S) -> Outcome
-    requires { S.sits rings.now stage.old }
-    ensures sits { S.sits rings.now stage.new }
-    ensures goes { S.goes rings.now stage.old stage.new }
-    ensures polled { PollsAs (S.polled rings.now) result stage.old stage.new }
-{
-    gate.enter(station, stage.next_seq());
-    let turn = stage.poll(rings);
-    gate.leave(station, stage.next_seq());
-    outcome(turn)
-}
-
-/// Wakes those who may have work by a poll for which the output ring had no room: of a command's outputs it may have
-/// published those that there was room for.
-fn rouse_if_pressed<G: Signalling>(signals: &G, station: Station, outcome: Outcome) {
-    if outcome == Outcome::Pressed {
-        signals.rouse(station);
-    }
-}
-
-/// Lets the stage work, and rest between its polls, until it is over or, behind a poll, the signals say stop.
-fn poll_on<P: Pauses, Q: Gate, R, S: Stage<R>, G: Signalling>(
-    rest: &mut Rest<P>,
-    gate: &Q,
-    rings: &R,
+/// A stage at its rings and its station. A turn of it is a poll.
+#[derive(Drop)]
+struct Staffed<'a, R, S: Stage<R> + Drop, G: Signalling> {
+    rings: &'a R,
     station: Station,
-    stage: &mut S,
-    signals: &G,
-) -> Ended
-    requires { S.sits rings.now stage.old }
-    ensures sits { S.sits rings.now stage.new }
-    ensures goes { S.goes rings.now stage.old stage.new }
-    ensures ends { let m = moments P.paused P.parked P.snoozed P.timed P.asked_until P.turned_shy in
-        Ends (TurnAndRest (PollsAs (S.polled rings.now)) m) (G.told signals.now) result
-        (thread stage.old rest.old) (thread stage.new rest.new) }
-{
-    for polls in 0..u64::MAX {
-        let outcome = poll_at(gate, rings, station, stage);
-        rouse_if_pressed(signals, station, outcome);
-        if !rest.goes_on(outcome) {
-            return Ended::Over;
-        }
-        if signals.say_stop() {
-            return Ended::Told;
-        }
+    stage: S,
+    signals: &'a G,
+    ghost sits: { S.sits rings.now stage } by { S.sits_once rings.now stage },
+}
+
+impl<R, S: Stage<R> + Drop, G: Signalling> Worker for Staffed<'_, R, S, G> {
+    ghost use Rattle.std.specs.Prelude.{◌≡◌};
+    ghost use Rattle.std.proofs.Common.{◌∙◌};
+    ghost use Rattle.workers.specs.Polling.{PollsAs};
+
+    ghost goes = { λ x y. (y.rings.now ≡ x.rings.now) × S.goes x.rings.now x.stage y.stage };
+
+    ghost further = { λ x y z first second.
+        (second.0 ∙ first.0, S.further x.rings.now x.stage y.stage z.stage first.1 (rw first.0 at second.1)) };
+
+    ghost took = { λ outcome x y.
+        (y.rings.now ≡ x.rings.now) × PollsAs (S.polled x.rings.now) outcome x.stage y.stage };
+
+    fn number(&self, _turns: u64) -> u64 {
+        self.stage.next_seq()
     }
-    Ended::TookAll
+
+    /// Polls the stage. A poll for which the output ring had no room may have published those of a command's outputs
+    /// that there was room for: those who may have work by that are woken.
+    fn turn(&mut self) -> Outcome {
+        let outcome = outcome(self.stage.poll(self.rings));
+        if outcome == Outcome::Pressed {
+            self.signals.rouse(self.station);
+        }
+        outcome
+    }
 }
 
 /// Lets the stage work until it is over or, behind a poll, the signals say stop, and says why it took no more polls.
@@ -82,7 +68,7 @@ pub(crate) fn staff<C: Clock + Parks, Q: Gate, R, S: Stage<R> + Drop, G: Signall
     gate: &Q,
     rings: &R,
     station: Station,
-    mut stage: S,
+    stage: S,
     signals: &G,
 ) -> (S, Ended)
     requires { S.sits rings.now stage }
@@ -91,8 +77,13 @@ pub(crate) fn staff<C: Clock + Parks, Q: Gate, R, S: Stage<R> + Drop, G: Signall
     ensures ends { Ends (PollsAs (S.polled rings.now)) (G.told signals.now) result.1 stage result.0 }
     ensures stopped { G.stopped signals.now }
 {
-    let mut rest = Rest::new(Sleeper::of(rt, signals, station, rt.parking()));
-    let ended = poll_on(&mut rest, gate, rings, station, &mut stage, signals);
+    let mut staffed = Staffed {
+        rings,
+        station,
+        stage,
+        signals,
+    };
+    let ended = work(rt, gate, station, &mut staffed, rt.parking(), signals);
     signals.stop();
-    (stage, ended)
+    (staffed.stage, ended)
 }

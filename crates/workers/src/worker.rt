@@ -1,5 +1,5 @@
-//! A worker, a gateway at the rings, and the loop in which it takes its turns (Disruptor: an event processor). A stage
-//! has a loop of its own, in station.rt.
+//! A worker at the rings, a gateway or a stage, and the loop in which the worker takes its turns (Disruptor: an event
+//! processor).
 ghost use Rattle.std.specs.Prelude.{◌≡◌};
 ghost use Rattle.workers.specs.Resting.{moments};
 ghost use Rattle.workers.specs.Working.{Ends, TurnAndRest, thread};
@@ -38,21 +38,23 @@ pub enum Ended {
     TookAll,
 }
 
-/// A worker that has turns: a gateway at its rings.
+/// A worker that has turns: a gateway, or a stage, at its rings.
 pub trait Worker {
     ghost use Rattle.workers.specs.declared.worker.Outcome.{Outcome};
 
-    /// What turns come to, none or one or many of them: for instance that it is at the same rings.
+    /// What turns come to, one or many of them: for instance that it is at the same rings.
     ghost goes: { Self → Self → Type 0 };
 
-    /// So it is before the first turn.
-    ghost stays: { (x : Self) → goes x x };
-
-    /// And so it is behind one turn more.
+    /// So it is behind more of them.
     ghost further: { (x y z : Self) → goes x y → goes y z → goes x z };
 
     /// That it took one turn, which came to this, and nothing else. Code over any worker knows this of its calls alone.
     ghost took: { Outcome → Self → Self → Type 0 } = { λ outcome x y. Unit {0} };
+
+    /// What its `Gate` is told behind so many turns: that number, or of a stage its next sequence.
+    fn number(&self, turns: u64) -> u64 {
+        turns
+    }
 
     /// Does what is next for it, if there is something. It doesn't wait.
     fn turn(&mut self) -> Outcome
@@ -65,14 +67,14 @@ fn turn_at<Q: Gate, W: Worker>(gate: &Q, station: Station, worker: &mut W, turns
     ensures goes { W.goes worker.old worker.new }
     ensures took { W.took result worker.old worker.new }
 {
-    gate.enter(station, turns);
+    gate.enter(station, worker.number(turns));
     let outcome = worker.turn();
-    gate.leave(station, turns);
+    gate.leave(station, worker.number(turns));
     outcome
 }
 
-/// Lets the worker of this station take turns, and its thread rest between them, until it is over or the signals say
-/// stop, and says why it took no more.
+/// Lets the worker of this station take turns, and its thread rest between them, until it is over or, behind a turn,
+/// the signals say stop, and says why it took no more.
 fn work_on<P: Pauses, Q: Gate, W: Worker, S: Signalling>(
     rest: &mut Rest<P>,
     gate: &Q,
@@ -85,19 +87,19 @@ fn work_on<P: Pauses, Q: Gate, W: Worker, S: Signalling>(
         (S.told signals.now) result (thread worker.old rest.old) (thread worker.new rest.new) }
 {
     for turns in 0..u64::MAX {
-        if signals.say_stop() {
-            return Ended::Told;
-        }
         let outcome = turn_at(gate, station, worker, turns);
         if !rest.goes_on(outcome) {
             return Ended::Over;
+        }
+        if signals.say_stop() {
+            return Ended::Told;
         }
     }
     Ended::TookAll
 }
 
-/// Lets the worker of this station take turns until it is over or the signals say stop, and says why it took no more.
-/// Where its thread has a place to rest, it is woken there; else it sleeps for short.
+/// Lets the worker of this station take turns until it is over or, behind a turn, the signals say stop, and says why it
+/// took no more. Where its thread has a place to rest, it is woken there; else it sleeps for short.
 pub fn work<C: Clock, Q: Gate, W: Worker, S: Signalling>(
     clock: &C,
     gate: &Q,

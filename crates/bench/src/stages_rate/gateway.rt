@@ -127,8 +127,6 @@ impl<const G: usize> Gateway<'_, G> {
 impl<const G: usize> Worker for Gateway<'_, G> {
     ghost goes = { λ x y. ⊤ };
 
-    ghost stays = { λ x. tt };
-
     ghost further = { λ x y z first second. tt };
 
     /// Takes the next output; where there is none, publishes the next message, or waits for room. It is over once it

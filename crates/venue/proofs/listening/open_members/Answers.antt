@@ -1,4 +1,4 @@
--- Each post and each port is as it was made, and there is room for all.
+-- Each door and each port is as it was made, and there is room for all.
 use Rattle.std.proofs.Common.{arith}
 use Rattle.venue.specs.Headline.{in_box}
 use Rattle.venue.proofs.HomeLemmas.{free_again}
@@ -6,10 +6,10 @@ use Rattle.venue.proofs.listening.open_members.Goals as goal
 
 pub returns-clause-ready : goal.returns-clause-ready
 returns-clause-ready g c =
-    let posts = c.in-Ok-open_posts.ensures in let opened = c.open_ports.ensures in
-    let all = c.requires.ports.0 in let made = posts.count in let kept = opened.count in let home = posts.home in
+    let doors = c.in-Ok-open_doors.ensures in let opened = c.open_ports.ensures in
+    let all = c.requires.ports.0 in let made = doors.count in let kept = opened.count in let home = doors.home in
     let room = c.in-Ok.ensures in record {
-      posts = posts.posts;
+      doors = doors.doors;
       ports = omega (arith, all, made, kept);
       opened = c.in_default-open_ports.ensures.opened;
       free = free_again (in_box g.X.Port.tells) c.args.ports.items c.open_ports.new.ports.items opened.ports

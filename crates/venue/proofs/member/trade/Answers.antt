@@ -1,9 +1,11 @@
 -- The member went on from its start, and the port was given back the wire that was left.
-use Rattle.std.proofs.Common.{◌∙◌, ap, subst}
-use Rattle.gateway.specs.Accepting.{told_by}
-use Rattle.venue.specs.Leaving.{told_leaving}
+use Rattle.std.proofs.Common.{◌∙◌, refl, ap, subst, None}
+use Rattle.venue.specs.Accepting.{Accepting}
+use Rattle.gateway.specs.Gateways.{AtRings}
+use Rattle.ring_words.specs.At.{number}
 use Rattle.venue.specs.Trading.{GivesBack, TradesOn}
-use Rattle.venue.specs.declared.member.Desk.{Desk}
+use Rattle.venue.specs.Visiting.{at_gateway, client_in, told_leaver}
+use Rattle.venue.specs.declared.visitor.Visitor.{Visitor}
 use Rattle.wires.specs.Ports.{Register}
 use Rattle.venue.proofs.MemberTurns.{at_door}
 use Rattle.venue.proofs.TradeLemmas.{comes_back}
@@ -11,24 +13,23 @@ use Rattle.venue.proofs.member.trade.Goals as goal
 
 pub returns : goal.returns
 returns g c =
-    let post = c.args.post.desk.value in let worker = c.work-ended.new.worker in
-    let tells = g.W.Wire.tells in let told = told_leaving tells in
-    let wire = told_by tells c.end-seat.result.1 in let after = g.X.Port.tells c.dismiss.new.port in
-    let whole = c.into_inner-acceptor.ensures in
-    let goes = subst (λ (r : Register). TradesOn c.args.rings.now (at_door post.acceptor (told post.leaving) r)
-    worker.rings.now (at_door worker.desk.value.acceptor (told worker.desk.value.leaving)
-    (g.X.Port.tells worker.port.value))) c.park_at-parking.ensures c.work-ended.ensures.goes in
-    let seat_is = c.end-seat.ensures.seat ∙ ap (λ (d : Desk _). d.acceptor.gateway.seat) whole in
-    let wire_is = c.end-seat.ensures.wire ∙ ap (λ (d : Desk _). d.acceptor.wire) whole in record {
-      back = comes_back c.args.rings.now worker.rings.now c.args.post.number post.acceptor worker.desk.value.acceptor
-          (told post.leaving) (told worker.desk.value.leaving) wire
-          (g.X.Port.tells c.args.port.value) (g.X.Port.tells worker.port.value) after
-          c.requires.begun.0 c.requires.begun.1 goes c.end-seat.result.0 seat_is worker.fits
-          wire_is
-          c.end-seat.ensures.seen.spent
-          (subst (λ (d : Desk _). GivesBack (g.X.Port.tells worker.port.value) after (told d.leaving) wire) whole
-          (subst (λ x. GivesBack (g.X.Port.tells x) after
-          (told c.into_inner-acceptor.result.leaving) wire) c.deref_mut.ensures.value
-          c.dismiss.ensures.back))
+    let door = c.args.door in let worker = c.work-ended.new.worker in let tells = g.W.Wire.tells in
+    let port = g.X.Port.tells worker.port.value in let after = g.X.Port.tells c.dismiss.new.port in
+    let start = at_gateway tells door.0 door.1.value in let begun = c.requires.begun in
+    let end = at_gateway tells worker.gateway worker.visitor.value in
+    let goes = subst (λ (r : Register). TradesOn c.args.rings.now (at_door start (told_leaver tells door.1.value) r)
+    worker.rings.now (at_door end (told_leaver tells worker.visitor.value) port)) c.park_at-parking.ensures
+    c.work-ended.ensures.goes in record {
+      back = comes_back c.args.rings.now worker.rings.now (number door.0.seat) start end
+          (told_leaver tells door.1.value) (told_leaver tells worker.visitor.value)
+          (client_in tells worker.visitor.value) (g.X.Port.tells c.args.port.value) port after
+          (ap (λ (v : Visitor _). at_gateway tells door.0 v) begun.1
+          ∙ ap {A = AtRings} {B = Accepting} (λ a. record { gateway = a; wire = None }) begun.0)
+          (ap (told_leaver tells) begun.1) goes c.end.result c.end.ensures.seat worker.fits refl
+          c.end.ensures.seen.spent
+          (subst (λ (v : Visitor _). GivesBack port after (told_leaver tells v) (client_in tells v))
+          c.into_inner.ensures
+          (subst (λ x. GivesBack (g.X.Port.tells x) after (told_leaver tells c.into_inner.result)
+          (client_in tells c.into_inner.result)) c.deref_mut.ensures.value c.dismiss.ensures.back))
           c.requires.opened;
     }

@@ -9,7 +9,7 @@ pub returns-clause-others : goal.returns-clause-others
 returns-clause-others g c =
     let all = c.requires.ports in let fewer = c.in-Some.ensures.count in let popped = c.in-Some-pop.ensures.len in
     let room = c.requires.room in let seats = room.0 in let ports = room.1 in record {
-      posts = c.last_post.ensures.left;
+      doors = c.last_door.ensures.left;
       ports = omega (arith, all, fewer, popped);
       opened = λ i x there. c.requires.opened i x (rw c.in-Some-pop.ensures.items
           (at_longer c.pop.new.self.items _ i x there));
