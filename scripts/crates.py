@@ -4,7 +4,7 @@ import subprocess
 from collections.abc import Iterator
 
 ROOT = os.path.dirname(os.path.dirname(os.path.abspath(__file__)))
-BYTES = 3_000_000_000  # What a process that proves a crate may take of memory.
+BYTES = 3_000_000_000  # What a process that proves a crate takes of memory. That of ring_tests ends with 4 GB.
 
 Crates = dict[str, list[str]]  # Each with what it stands on.
 

@@ -1,6 +1,8 @@
 //! A snapshot that is added to a journal: what a replay finds where the program stops behind one of the calls of the
 //! disk, and how much of the journal a replay does again.
 
+mod told_events;
+
 use book::{Book, BookLogic, RestoreFault, Restored};
 use disks::{Call, DiskFailed, JournalDisk, MemDisk, MemFile, MemFolder, Script};
 use journal::snapshots;

@@ -351,11 +351,22 @@ fn what_is_read_ahead_is_handed_out_in_order(rt: HostRuntime) -> Result<(), Fail
     ];
     let line = Line::new(rt.alloc(), b"8=FIX.4.4", &steps, &[]);
     let mut wire = wire_over(rt.alloc(), line)?;
-    let mut bytes = Vec::new(rt.alloc());
-    expect_reads_by_two(&rt, &mut wire, &answers, &mut bytes)?;
-    assert_eq!(rt; bytes.as_slice(), b"8=FIX.4.4".as_slice());
+    expect_order(&rt, rt.alloc(), &mut wire, &answers)?;
     expect_counts(&rt, &wire, 1, (2, 0));
     expect_counts(&rt, wire.below(), 1, (2, 0));
+    Ok(())
+}
+
+/// Such reads are given these answers, and the line's bytes in their order.
+fn expect_order<A: Abort>(
+    rt: &A,
+    alloc: Global,
+    wire: &mut TcpWire<Line<'_>>,
+    answers: &[TryRead],
+) -> Result<(), AllocError> {
+    let mut bytes = Vec::new(alloc);
+    expect_reads_by_two(rt, wire, answers, &mut bytes)?;
+    assert_eq!(rt; bytes.as_slice(), b"8=FIX.4.4".as_slice());
     Ok(())
 }
 
@@ -384,18 +395,23 @@ fn what_is_written_waits_until_it_is_sent(rt: HostRuntime) -> Result<(), Fail> {
     ];
     let line = Line::new(rt.alloc(), b"", &[], &steps);
     let mut wire = wire_over(rt.alloc(), line)?;
+    expect_all_sent(&rt, &mut wire);
+    Ok(())
+}
+
+/// What is written three times before a flush, and once before a rest, is sent in order.
+fn expect_all_sent<A: Abort>(rt: &A, wire: &mut TcpWire<Line<'_>>) {
     expect_flushes(
-        &rt,
-        &mut wire,
+        rt,
+        wire,
         &[(b"8=FIX", false), (b".4.4|", false), (b"9=5|3", true)],
     );
-    expect_writes(&rt, &mut wire, b"5=0|1", &[TryWrite::Put(5)]);
+    expect_writes(rt, wire, b"5=0|1", &[TryWrite::Put(5)]);
     wire.rest(true);
     assert_eq!(rt;
         wire.below().stream().sent.as_slice(),
         b"8=FIX.4.4|9=5|35=0|1".as_slice()
     );
-    Ok(())
 }
 
 /// Whether these are 200 rows of 1,024 bytes each, in order.
@@ -565,10 +581,14 @@ fn what_a_client_does_not_take_is_held(rt: HostRuntime) -> Result<(), Fail> {
     let stream = MemStream::new(rt.alloc(), b"")?.full_after(12);
     let mut wire = wire_over(rt.alloc(), stream)?;
     expect_writes(&rt, &mut wire, b"8=FIX.4", &[TryWrite::Put(7); 2]);
-    assert!(rt; !wire.flush());
-    assert_eq!(rt; wire.below().stream().taken(), b"8=FIX.48=FIX".as_slice());
+    expect_flush(&rt, &mut wire, false);
     wire.give_up();
-    assert!(rt; wire.flush());
-    assert_eq!(rt; wire.below().stream().taken(), b"8=FIX.48=FIX".as_slice());
+    expect_flush(&rt, &mut wire, true);
     Ok(())
+}
+
+/// A flush sends all or not, and the client has taken twelve bytes.
+fn expect_flush<A: Abort>(rt: &A, wire: &mut TcpWire<MemStream>, sent: bool) {
+    assert_eq!(rt; wire.flush(), sent);
+    assert_eq!(rt; wire.below().stream().taken(), b"8=FIX.48=FIX".as_slice());
 }

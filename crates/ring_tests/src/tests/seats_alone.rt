@@ -1,9 +1,11 @@
 //! What the stages don't call: rings of sizes that aren't one, and a copy of an output that was put.
-ghost use Rattle.std.specs.Prelude.{◌≡◌};
+ghost use Rattle.std.specs.Prelude.{◌≡◌, ◌≤◌};
 ghost use Rattle.ring_words.specs.At.{IsAt};
+ghost use Rattle.stages.specs.Crews.{AreAt};
 
 use barrier::{outputs_available, read_output};
 use book::BookLogic;
+use journal::NullDisk;
 use ring_words::{MarshalSeat, OpenError};
 use small_venue::crew::open_venue;
 use small_venue::member::next_member;
@@ -12,17 +14,27 @@ use small_venue::venue::{TestRings, abc, open};
 use stages::Crew;
 use std::alloc::Global;
 use std::test::Fail;
-use venue_model::{Output, OutputType};
+use venue_model::{Limits, Output, OutputType};
 
 #[test]
 fn sizes_refused(rt: HostRuntime) -> Result<(), Fail> {
     let limits = abc(rt.alloc()).ok_or("no memory")?;
     let no_power = Some(OpenError::NotPowerOfTwo);
-    assert_eq!(rt; open::<3, 2, 1>(rt.alloc(), &limits).err(), no_power);
-    assert_eq!(rt; open::<2, 1, 1>(rt.alloc(), &limits).err(), no_power);
-    assert_eq!(rt; open::<2, 8192, 1>(rt.alloc(), &limits).err(), no_power);
-    assert_eq!(rt; open::<4096, 2, 8>(rt.alloc(), &limits).err(), None);
+    assert_eq!(rt; refusal::<3, 2, 1>(rt.alloc(), &limits), no_power);
+    assert_eq!(rt; refusal::<2, 1, 1>(rt.alloc(), &limits), no_power);
+    assert_eq!(rt; refusal::<2, 8192, 1>(rt.alloc(), &limits), no_power);
+    assert_eq!(rt; refusal::<4096, 2, 8>(rt.alloc(), &limits), None);
     Ok(())
+}
+
+/// Why rings of these sizes aren't made, if they aren't.
+fn refusal<const N: usize, const M: usize, const G: usize>(
+    alloc: Global,
+    limits: &Limits,
+) -> Option<OpenError>
+    requires { (1 ≤ G) × (G ≤ 8) }
+{
+    open::<N, M, G>(alloc, limits).err()
 }
 
 /// The next output and its place, if it is there.
@@ -46,17 +58,22 @@ fn read_first(alloc: Global) -> Result<Option<(u64, Output)>, Fail> {
     let (rings, stages, mut gateways) = open_venue::<4, 2, 1>(alloc)?;
     let mut gateway = next_member(&rings, &mut gateways).ok_or("no gateway")?;
     gateway.publish(&order).ok().ok_or("no room")?;
-    let Crew {
-        mut unmarshaller,
-        mut journaller,
-        mut processor,
-        marshaller,
-    } = Box::into_inner(stages);
-    unmarshaller.poll(&rings);
-    journaller.poll(&rings);
-    processor.poll(&rings);
-    let mut seat = marshaller.end();
+    let mut seat = poll_before_the_last(&rings, Box::into_inner(stages));
     Ok(copy_next(&rings, &mut seat))
+}
+
+/// Lets the stages before the marshaller poll once, and gives the marshaller's seat.
+fn poll_before_the_last<const N: usize, const M: usize, const G: usize>(
+    rings: &TestRings<N, M, G>,
+    mut stages: Crew<NullDisk>,
+) -> MarshalSeat<BookLogic>
+    requires { AreAt rings.now stages }
+    ensures { IsAt rings.now result }
+{
+    stages.unmarshaller.poll(rings);
+    stages.journaller.poll(rings);
+    stages.processor.poll(rings);
+    stages.marshaller.end()
 }
 
 /// The output is read at its place.
