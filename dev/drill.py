@@ -12,8 +12,8 @@ from drill_machines import SHARED, Machine
 from drill_store import FOLDER, Store, contents
 from drill_venue import CUT_OFF, PORT, SYMBOL, Unit, alone, first_ready, step_without, watched
 from gikvand.words import sure
-from traders import Member, Rounds, request
-from venues import Client, Late, Trouble, await_that, message
+from traders import Member, Rounds, request, standstills
+from venues import Client, Late, Trouble, Unseen, await_that, message
 
 MEMBERS = [1, 2, 3, 4]
 ENOUGH = 100     # Answers that each member gets before something happens.
@@ -21,6 +21,7 @@ PAUSE = 0.3      # Seconds between two bursts of a member, at most.
 A_VIEW = 1.1     # Seconds for which a machine may hold that there is no stop file, since it last looked for it.
 LINES = 12       # So many of a unit's last lines are shown where a case fails.
 A_LOOK = 0.05    # Seconds between two looks at the journal.
+STOOD = 2.0      # Seconds in all for which the machine that plays may stand still in a case.
 
 
 def trading(machine: Machine, rounds: Rounds) -> list[Member]:
@@ -90,6 +91,19 @@ def heard(trader: Member) -> bool:
         return False
 
 
+@contextlib.contextmanager
+def late_where_it_stood() -> Iterator[None]:
+    """What isn't seen in its time within this came too late where the machine that plays stood still meanwhile: no case plays that. What is
+    lost is lost all the same."""
+    stood, since = standstills(), time.monotonic()
+    try:
+        yield
+    except Unseen as why:
+        if (seconds := stood.between(since, time.monotonic())) > STOOD:
+            raise Late(f"{why} (this machine stood still for {seconds:.1f} s)") from why
+        raise
+
+
 class Drill:
     """The machines, their store, and what the journal held after each case."""
 
@@ -144,7 +158,8 @@ class Drill:
         """Plays a case, and says what was seen."""
         self.units, self.edges = [], []
         before = sum(map(len, self.rounds.kept.values()))
-        said = case(self, self.machines[number % len(self.machines)])
+        with late_where_it_stood():
+            said = case(self, self.machines[number % len(self.machines)])
         kept = sum(map(len, self.rounds.kept.values())) - before
         return f"{said}; {kept} reports more in the journal, all that were told among them; {self.store.EQUAL}"
 

@@ -1,4 +1,5 @@
 """Members that trade without a break, and checks of what a journal kept for them. Not a script: the scripts import it."""
+import functools
 import os
 import random
 import re
@@ -17,6 +18,7 @@ from venues import replay, value
 BURST = 32     # Requests that a member sends in one go, so that many are under way at a kill.
 A_SIP = 1024   # So many bytes a slow client takes at once.
 A_ROUND = 1_000  # Requests that are answered between two starts at least: the next start then writes a snapshot.
+A_MOMENT, STANDS = 0.02, 0.2  # Seconds between two looks at the time, and behind how many this process stood still in between.
 PLACE = re.compile(r"\|17=(\d+)\|")
 ANSWERS = re.compile(rb"\x01150=[058]\x01|\x0135=9\x01")  # Of all but cancels.
 
@@ -68,13 +70,47 @@ def sip(client: Client, pause: float, taken: list[int]) -> None:
         pass
 
 
+class Standstills:
+    """When this process stood still, as it does with its machine: a thread that looks at the time again and again couldn't."""
+
+    def __init__(self) -> None:
+        self.looked_at, self.found = time.monotonic(), list[tuple[float, float]]()
+        threading.Thread(target=self.look, daemon=True).start()
+
+    def look(self) -> None:
+        while True:
+            time.sleep(A_MOMENT)
+            now = time.monotonic()
+            if now - self.looked_at > STANDS:
+                self.found.append((self.looked_at, now))
+            self.looked_at = now
+
+    def between(self, since: float, until: float) -> float:
+        """For how many seconds between these moments, the later of which is now, or was."""
+        while self.looked_at < until:
+            time.sleep(A_MOMENT)
+        return sum(max(0.0, min(to, until) - max(at, since)) for at, to in self.found)
+
+    def sleep(self, seconds: float) -> None:
+        """Sleeps until so many seconds have gone in which it didn't stand still."""
+        begun = time.monotonic()
+        while (left := begun + seconds - (now := time.monotonic()) + self.between(begun, now)) > 0:
+            time.sleep(left)
+
+
+@functools.cache
+def standstills() -> Standstills:
+    """Those of this process, from the first call on."""
+    return Standstills()
+
+
 class Member:
     """A member that trades in one session until the venue is gone. It rests for up to `pause` seconds between bursts. Its
     ends are a socket, or what sends and receives as one."""
 
     def __init__(self, ends: Any, member: int, first: int, pause: float = 0.06) -> None:
         self.ends, self.member, self.first, self.name, self.pause = ends, member, first, first, pause
-        self.got, self.number = bytearray(), 1
+        self.got, self.number, self.stood = bytearray(), 1, standstills()
         self.heard_at, self.longest = time.monotonic(), 0.0
         self.has_ended = self.has_ceased = False
         self.threads = [threading.Thread(target=it, daemon=True) for it in (self.read, self.write)]
@@ -107,15 +143,18 @@ class Member:
         return len(ANSWERS.findall(bytes(self.got)))
 
     def silence(self) -> float:
-        """The longest time for which nothing came, in seconds, since `longest` was set to 0."""
-        return max(self.longest, time.monotonic() - self.heard_at)
+        """The longest time for which nothing came, in seconds, since `longest` was 0. Times in which this process stood still don't count."""
+        since, now = self.heard_at, time.monotonic()
+        if now - since > max(self.longest, STANDS):
+            return max(self.longest, now - since - self.stood.between(since, now))
+        return max(self.longest, now - since)
 
     def cease(self) -> None:
-        """Sends no more, and waits until the last request is answered."""
+        """Sends no more, and waits until the last request is answered. There may be none: this process may stand still behind the start."""
         self.has_ceased = True
         self.threads[1].join(PATIENCE)
         end = time.monotonic() + PATIENCE
-        while f"\x0111={self.name - 1}\x01".encode() not in self.got:
+        while self.name > self.first and f"\x0111={self.name - 1}\x01".encode() not in self.got:
             if time.monotonic() > end:
                 raise Trouble(f"C{self.member} has no answer to request {self.name - 1}")
             time.sleep(0.005)

@@ -39,6 +39,10 @@ class Late(Trouble):
     """What came too late: by the venue, or since the machine itself stood still for a moment."""
 
 
+class Unseen(Trouble):
+    """What wasn't seen to hold in its time."""
+
+
 def expect(came: object, wanted: object) -> None:
     """Fails the test where something else came."""
     if came != wanted:
@@ -60,7 +64,7 @@ def await_that(what: str, holds: Callable[[], object], pause: float = 0.02) -> N
     end = time.monotonic() + PATIENCE
     while not holds():
         if time.monotonic() > end:
-            raise Trouble(f"{what}: not within {PATIENCE} seconds")
+            raise Unseen(f"{what}: not within {PATIENCE} seconds")
         time.sleep(pause)
 
 

@@ -5,9 +5,9 @@
 //   LIAR_FOLDER  the folder
 //   LIAR_NAME    the machine's name
 //   LIAR_STATE   another folder: `cut-a` is there as long as the machine a is cut off; `epoch` has a byte for each time that
-//                one was fenced, and `fenced-a` as many as there were when a was; `lock-3` is the file that is locked in
-//                the place of each one in the folder once there were three; `pids-a` has the processes of a; `memory-a-F`
-//                is what a remembers of the file F
+//                one was fenced, and `fenced-a` as many as there were when a was; `moment` is locked by each call, and by
+//                who cuts a machine off; `lock-3` is the file that is locked in the place of each one in the folder once
+//                there were three; `pids-a` has the processes of a; `memory-a-F` is what a remembers of the file F
 //   LIE          the lie, if any: late, what was fenced is done once the machine is joined; stale, a machine reads what it
 //                remembers until it drops that; mapped, or then too; early, a lock passes on a second behind a refusal;
 //                sync, what is written reaches the folder with a close alone; cut, who is cut off is told of success
@@ -68,6 +68,22 @@ static int is_cut(void) {
     return !access(path_of(path, "cut-", name), F_OK);
 }
 
+// A call is in front of a cut or behind it: who cuts a machine off waits for those that have begun, and so none is half of each.
+static int begun(void) {
+    char path[PATH_MAX];
+    int moment = syscall(SYS_openat, AT_FDCWD, path_of(path, "moment", ""), O_RDONLY | O_CREAT | O_CLOEXEC, 0600);
+    syscall(SYS_flock, moment, LOCK_SH);
+    return moment;
+}
+
+static void end(const int *moment) {
+    int why = errno;
+    syscall(SYS_close, *moment);
+    errno = why;
+}
+
+#define A_CALL __attribute__((cleanup(end))) int moment = begun()
+
 __attribute__((constructor)) static void begin(void) {
     char path[PATH_MAX], line[32];
     folder = getenv("LIAR_FOLDER");
@@ -101,13 +117,15 @@ static int is_refused(const struct file *it) {
 static int opens(const char *call, open_call *real, const char *path, int flags, mode_t mode) {
     (void)call;
     size_t size = folder ? strlen(folder) : 0;
-    int is_ours = folder && !strncmp(path, folder, size) && path[size] == '/';
-    if (is_ours && is_cut()) {
+    if (!folder || strncmp(path, folder, size) || path[size] != '/')
+        return real(path, flags, mode);
+    A_CALL;
+    if (is_cut()) {
         errno = EIO;
         return -1;
     }
     int file = real(path, flags, mode);
-    if (is_ours && file >= 0 && file < MOST_FILES) {
+    if (file >= 0 && file < MOST_FILES) {
         files[file] = (struct file){.is_ours = 1, .epoch = size_of("epoch", "")};
         snprintf(files[file].name, sizeof files[file].name, "-%s", strrchr(path, '/') + 1);
     }
@@ -145,6 +163,7 @@ static int reads_memory(int file) { return (lies("stale") || lies("mapped")) && 
         struct file *it = ours(file); \
         if (!it) \
             return real(file, data, size, at); \
+        A_CALL; \
         if (is_refused(it)) \
             return -1; \
         if (!reads_memory(file)) \
@@ -187,6 +206,7 @@ static ssize_t writes(int file, const void *data, size_t size, off_t at) {
     struct file *it = ours(file);
     if (!it)
         return syscall(SYS_pwrite64, file, data, size, at);
+    A_CALL;
     if (lies("cut") && is_cut())
         return size;
     if (is_refused(it))
@@ -204,9 +224,12 @@ ssize_t pwrite64(int file, const void *data, size_t size, off_t at) { return wri
     int call(int file) { \
         REAL(int, call, int); \
         struct file *it = ours(file); \
-        if (it && lies("cut") && is_cut()) \
+        if (!it) \
+            return real(file); \
+        A_CALL; \
+        if (lies("cut") && is_cut()) \
             return 0; \
-        return it && is_refused(it) ? -1 : real(file); \
+        return is_refused(it) ? -1 : real(file); \
     }
 SYNCS(fsync)
 SYNCS(fdatasync)

@@ -1,16 +1,37 @@
 """`gikvand follow` and `gikvand board` as programs of their own, for tests that let them run. Not a test: tests import it."""
+import contextlib
 import os
 import select
 import signal
+import socket
 import subprocess
 import sys
+from collections.abc import Iterator
 from typing import TypeVar
 
 from gikvand.words import sure
 from made_journals import TOOLS, contents, untimed
-from venues import PATIENCE, Lines, Trouble, await_that, running
+from venues import HOST, PATIENCE, TRIES, Lines, Trouble, await_that, free_port, running
 
 T = TypeVar("T", bound="Tool")
+
+
+@contextlib.contextmanager
+def kept_ports(count: int) -> Iterator[int]:
+    """The first of so many ports that other tests find in use meanwhile. A program may listen there still, as it shares its address."""
+    for _ in range(TRIES):
+        with contextlib.ExitStack() as left:
+            first = free_port(count)
+            try:
+                for port in range(first, first + count):
+                    it = left.enter_context(socket.socket())
+                    it.setsockopt(socket.SOL_SOCKET, socket.SO_REUSEADDR, 1)
+                    it.bind((HOST, port))
+            except OSError:
+                continue
+            yield first
+            return
+    raise Trouble(f"in {TRIES} tries no {count} ports stayed free")
 
 
 class Tool:

@@ -294,9 +294,11 @@ def test_a_network_of_its_own() -> None:
     """Each part with venues has one, in which the system's own address is there, and a part that installs packages has none."""
     if subprocess.run(["unshare", "--net", "ip", "link", "set", "lo", "up"], stderr=subprocess.DEVNULL).returncode:
         pytest.skip("no network of its own can be had")
-    sees = "readlink /proc/self/ns/net >net-{name}; ip -o addr show up >at-{name}; {passes}"
-    names = ("users", "members", "package", "known_bad")
-    ran(by=".ci/run", without=(), **{it: sees.format(name=it, passes=passes(counted()[it])) for it in names})
+    sees = "readlink /proc/self/ns/net >net-{name}; ip -o addr show up >at-{name}; {waits}; {passes}"
+    names, beside = ("users", "members", "package", "known_bad"), {"users": "members", "members": "users"}
+    # (A number is given again once its network has gone: two that are compared are there at the same time.)
+    waits = {it: f"for it in $(seq 900); do [ -e net-{other} ] && break; sleep 0.1; done" for it, other in beside.items()}
+    ran(by=".ci/run", without=(), **{it: sees.format(name=it, waits=waits.get(it, "true"), passes=passes(counted()[it])) for it in names})
     networks = []
     for name in names:
         with open(f"tree/net-{name}", encoding="ascii") as net, open(f"tree/at-{name}", encoding="ascii") as at:

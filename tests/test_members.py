@@ -13,7 +13,7 @@ import pytest
 from checks import ROOT, contents, put
 from gikvand import journals
 from gikvand.words import sure
-from traders import Member, check_told, narrow_client, sip, vanish
+from traders import Member, check_told, narrow_client, sip, standstills, vanish
 from venues import HOST, PATIENCE, VENUED, Client, Late, Trouble, Venue, framed, free_port, in_some_try
 from venues import market_order, message, order, replay, started, value
 
@@ -119,7 +119,8 @@ def test_two_slow_of_eight() -> None:
 
 
 def six_beside_two_slow_ones(journal: str) -> None:
-    """The six trade for two seconds, in which they never wait for an answer for more than one."""
+    """The six trade for two seconds, in which they never wait for an answer for more than one. (When this process stands still counts for
+    neither.)"""
     venue = started(journal, 8)
     deaf, slow = narrow_client(venue.port, 7), narrow_client(venue.port, 8)
     threading.Thread(target=sip, args=(slow, 0.1, []), daemon=True).start()
@@ -130,7 +131,7 @@ def six_beside_two_slow_ones(journal: str) -> None:
     for client in (deaf, slow):
         client.send_bytes(b"".join(message(client.member, 2 + at, "D", order(1 + at, 1, 1, 1, more="59=3|"))
                                    for at in range(TOO_MUCH)))
-    time.sleep(2)
+    standstills().sleep(2)
     silence = max(it.silence() for it in traders)
     for it in traders:
         it.cease()

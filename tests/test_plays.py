@@ -65,6 +65,7 @@ NEXT = sealed(f"35=0|49=C1|56=VENUE|34=2|52={SOON}|")
 JOURNAL = "564e4a4c00000003" + "00" * 8
 ENTRY = sealed(f"35=D|49=C2|56=VENUE|34=2|52={SOON}|11=1|")
 BLOCK = "01" + f"{1 + 3 + len(ENTRY):08x}" + "01" + "02" + f"{len(ENTRY):04x}" + hexed(ENTRY)
+HAS_ENDED = "until grep -q ^State:.Z /proc/$(cat own)/status; do sleep 0.1; done"  # The program of this number, which nobody waited for.
 CASES = [
     Case("run", ["run venued 'echo one'", "prints one"]),
     Case("run", ["run venued 'echo $2,$3' '' third", "prints ,third"]),
@@ -119,7 +120,8 @@ CASES = [
     Case("close", ["run venued 'cat >/dev/null; echo end'", "close", "prints end"]),
     Case("close", ["run venued 'cat >/dev/null; echo end'", "quiet", "prints end"], 3, "expected end"),
     Case("kill", ["run venued 'sleep 600'", "kill", "run venued true"]),
-    Case("kill", ["run venued 'echo end; exit 3'", "prints end", "quiet", "kill"], 4, "expected status 137 came status 3"),
+    Case("kill", ["run venued 'echo $$ >own; echo end; exit 3'", "prints end", f"@other run venue-replay '{HAS_ENDED}; echo so'",
+                  "@other prints so", "kill"], 5, "expected status 137 came status 3"),
     Case("status", ["run venued 'exit 3'", "status 3"]),
     Case("status", ["run venued 'exit 3'", "status 1"], 2, "expected status 1 came status 3"),
     Case("status", ["run venued 'kill -KILL $$'", "status 137"]),

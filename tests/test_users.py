@@ -618,8 +618,8 @@ CRATES = {"low": "", "wide": "", "middle": "low", "venued": "low middle", "venue
 NEEDED = [it for it in CRATES if it != "other"]
 
 
-def build(fails: str = "", **others: str) -> tuple[int, list[str], list[str], list[str]]:
-    """Runs scripts/build in a small repository, where these commands fail: how it ended, and which commands it gave."""
+def prepare(fails: str = "", **others: str) -> None:
+    """Makes a small repository, where these commands fail."""
     shutil.rmtree("repository", ignore_errors=True)
     here = os.path.abspath("repository")
     for name in ("build", "crates.py", "needs_python.py"):
@@ -632,15 +632,24 @@ def build(fails: str = "", **others: str) -> tuple[int, list[str], list[str], li
         put_text(f"repository/kit/bin/{name}", CHECKER.format(here=here), 0o755)
     put_text("repository/fails", fails)
     put_text("repository/killed", "")
+    put_text("repository/asked", "")
+
+
+def build(fails: str = "", **others: str) -> tuple[int, list[str], list[str], list[str]]:
+    """Runs scripts/build in a small repository, where these commands fail: how it ended, and which commands it gave."""
+    prepare(fails, **others)
     return again()
+
+
+def path_with_kit() -> str:
+    """The path of programs, with that repository's own kit in front."""
+    return f"{os.path.abspath('repository/kit/bin')}:{os.path.dirname(sys.executable)}:{PATH}"
 
 
 def again(*words: str) -> tuple[int, list[str], list[str], list[str]]:
     """The same once more, over what was built."""
     put_text("repository/asked", "")
-    kit = os.path.abspath("repository/kit/bin")
-    status, out, err = ran([os.path.abspath("repository/scripts/build"), "--jobs", "2", *words],
-                           PATH=f"{kit}:{os.path.dirname(sys.executable)}:{PATH}")
+    status, out, err = ran([os.path.abspath("repository/scripts/build"), "--jobs", "2", *words], PATH=path_with_kit())
     with open("repository/asked", encoding="utf-8") as file:
         return status, out, err, file.read().splitlines()
 
@@ -715,6 +724,27 @@ def test_builds_that_end_others() -> None:
     """Where a crate isn't proved those that are proved beside it end with the script."""
     build("wide rattle check:fails\nlow rt lib:slow\nlow rattle check:slow", venued="low middle wide")
     await_that("nothing of the build runs", lambda: not processes_in(os.path.abspath("repository")))
+
+
+def test_builds_that_are_ended() -> None:
+    """SIGTERM ends a build with all that it has started: the proofs, and the making of a program."""
+    with contextlib.ExitStack() as behind:
+        behind.callback(end_all_in, os.getcwd())
+        for slow in (["low rattle check", "wide rattle check"], ["venued rt run"]):
+            end_a_build(slow)
+
+
+def end_a_build(slow: list[str]) -> None:
+    """Ends a build that waits for these commands."""
+    prepare("".join(f"{it}:slow\n" for it in slow), venued="low middle wide")
+    with subprocess.Popen([sys.executable, "repository/scripts/build"], stdout=subprocess.PIPE, stderr=subprocess.PIPE, text=True,
+                          env={**os.environ, "PATH": path_with_kit()}) as it:
+        await_that(f"the build comes to {slow}", lambda: {*slow} <= {*contents("repository/asked").decode().splitlines()})
+        it.terminate()
+        out, err = it.communicate(timeout=LONG)
+    assert (slow, it.returncode, err) == (slow, 1, "build: interrupted; what was proved so far is kept\n")
+    assert (slow, "The programs are" in out) == (slow, False)
+    await_that(f"nothing of the build runs behind {slow}", lambda: not processes_in(os.path.abspath("repository")))
 
 
 def test_builds_that_fail() -> None:

@@ -142,7 +142,7 @@ def test_a_run_without_its_process() -> None:
 def test_no_answer(does: str, why: str, monkeypatch: pytest.MonkeyPatch) -> None:
     """A process that doesn't answer, or that ends, is told. It isn't asked again."""
     monkeypatch.setattr(warm, "A_START", PATIENCE if why == "has ended" else 0.2)
-    monkeypatch.setattr(warm, "A_KILL", 0.2)
+    monkeypatch.setattr(warm, "A_KILL", 2.0)
     python, runs = put_text("python", f"#!/bin/sh\n{does}\n", 0o755), warm.WarmPytests()
     for _ in range(2):
         status, said = runs.ran(python, ["-q"], {}, 0.1)

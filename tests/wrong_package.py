@@ -53,7 +53,7 @@ SERVICE, SERVICES = "contrib/venued.service", "contrib/venued@.service"
 STEP, SERVE, SETTINGS, STANDBY, LET_GO = (f"contrib/standby/{it}" for it in ("before-start", "serve", "volume-settings", "venued@.conf",
                                                                              "let-go"))
 FENCE, CEPH_SETTINGS, DRILL_CEPH = "contrib/standby/fence-ceph", "contrib/standby/ceph-settings", "dev/drill_ceph.py"
-DRILL_CONTRACT, DRILL_STORE = "dev/drill_contract.py", "dev/drill_store.py"
+DRILL, DRILL_CONTRACT, DRILL_STORE = "dev/drill.py", "dev/drill_contract.py", "dev/drill_store.py"
 OPERATING, RECIPE = "docs/OPERATING.md", "contrib/container/Containerfile"
 SCRIPT, COMMANDS, COMPLETION, RELEASE = "scripts/package", "scripts/commands_page.py", "contrib/gikvand.bash", "scripts/release"
 EDGE_PAGE, EDGE_SETTINGS, EDGE_LIST = "contrib/man/gikvand-edge.8", "docs/EDGE.md", "scripts/settings_page.py"
@@ -180,7 +180,8 @@ WRONG = {
     "a fence of the own machine": Wrong(FENCE, "if it.name != own]", "]", "silent_machines"),
     "a fence of one time": Wrong(FENCE, "                    self.heard = None\n                    self.is_silent.clear()\n",
                                  "                    return\n", "silent_machines"),
-    "a fence of who is alone": Wrong(FENCE, "any(it.is_heard for it in others) and ", "", "hears_nobody"),
+    "a fence of who is alone": Wrong(FENCE, "any(it.is_heard_behind(self) for it in others) and ", "", "hears_nobody"),
+    "a fence by what was heard before": Wrong(FENCE, " and (self.heard or 0.0) - (silent.heard or 0.0) > SILENCE / 2", "", "stood_still"),
     "clients that are left": Wrong(FENCE, "name not in machines_in(left)", "True", "evictions_that"),
     "an eviction that is tried once": Wrong(FENCE, "                else:\n                    time.sleep(PAUSE)\n", "                else:\n"
                                             "                    return\n", "evictions_that"),
@@ -202,6 +203,9 @@ WRONG = {
     "copies that aren't whole": Wrong(DRILL_CEPH, '>= {"active", "clean"}', '>= {"active"}', "what_ceph_says"),
     "a status that is taken from who waits for it": Wrong(DRILL_CONTRACT, ' and len(told["NSpid"].split()) > 1', "", "what_machines_leave"),
     "a machine that can't end": Wrong(DRILL_CONTRACT, 'told["State"].split()[0] == "Z"', "False", "what_machines_leave"),
+    "a fault that is passed over": Wrong(DRILL, "time.monotonic())) > STOOD:", "time.monotonic())) > 0:", "that_stand_still"),
+    "a machine that never stands still": Wrong(DRILL, "time.monotonic())) > STOOD:", "time.monotonic())) < 0:", "that_stand_still"),
+    "losses that are late": Wrong(DRILL, "    except Unseen as why:\n", "    except Trouble as why:\n", "that_stand_still"),
     "a plant that any fault shows": Wrong(DRILL_STORE, 'LIVES_ON = "says \'status 137\': not within "', 'LIVES_ON = ": not within "',
                                           "what_plants_tell"),
     "an answer of a daemon's in one piece": Wrong(DRILL_CEPH, 'with ends.makefile("rb") as came:', 'with ends.makefile("rb", 0) as came:',

@@ -26,6 +26,8 @@ MEMBER = 2  # Which the example is; the first one trades with it.
 NAME = "DESK-B"
 USERNAME, PASSWORD = "desk", "a secret"
 QUICKFIX = "./engine"  # The example on QuickFIX, which tries again by itself.
+WRONG = "Username (553) or Password (554) is wrong"
+A_WAIT = 0.05  # Seconds: behind a wrong password twice as long no Logon is looked at, and behind each further one twice as long again.
 LAST_MINUTE = (23, 59)  # Behind which the numbers of the examples begin anew, and not those of a test's edge.
 
 
@@ -91,7 +93,8 @@ def plays(words: Sequence[str]) -> None:
         other.send("D", order(f"s-{sold}", 2, 1, "50"))
         other.report(_150="F", _11=f"s-{sold}")
 
-    one = let_in(words, port)
+    one = Example(words, port)
+    one.hears("logged on")
     first = value(one.hears(_35="8", _150="0", _44="50.00"), "11")
     whole = next((it for it in one.lines if value(it, "35") == "W"), None) or one.hears(_35="W", _262="market")
     expect((value(whole, "55"), value(whole, "814")), ("ABC", "2"))
@@ -126,15 +129,19 @@ def plays(words: Sequence[str]) -> None:
 
 def refuses(words: Sequence[str], edge: Edge, port: int) -> None:
     """With a wrong password, which has no answer, an example ends badly, or tries again until somebody ends it. What it keeps is taken
-    away: behind a gap it doesn't send its first order again."""
+    away, and the time goes by in which no Logon is looked at: behind a gap it doesn't send its first order again."""
     one = Example(words, port, "another")
     if words[0] == QUICKFIX:
         one.hears("logged out: the Logon wasn't taken")
         one.end()
     else:
         expect(one.process.wait(PATIENCE), 1)
-    edge.hears("Username (553) or Password (554) is wrong")
+    edge.hears(WRONG)
     forget()
+    waited = 0
+    while (wrong := sum(WRONG in it for it in edge.lines)) > waited:
+        time.sleep(A_WAIT * 2 ** wrong)
+        waited = wrong
 
 
 def forget() -> None:
@@ -142,20 +149,6 @@ def forget() -> None:
     shutil.rmtree("store", ignore_errors=True)
     with contextlib.suppress(FileNotFoundError):
         os.remove(f"{NAME}.numbers")
-
-
-def let_in(words: Sequence[str], port: int) -> Example:
-    """One that is logged on. Soon behind a wrong password a Logon has no answer, and an example that is a program comes at once."""
-    end = time.monotonic() + PATIENCE
-    while True:
-        one = Example(words, port)
-        try:
-            one.hears("logged on")
-            return one
-        except Trouble:
-            if not one.process.wait(PATIENCE) or time.monotonic() > end:
-                raise
-            forget()
 
 
 def needs(tool: str, package: str) -> bool:

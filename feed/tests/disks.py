@@ -1,5 +1,6 @@
 """Disks of their own for programs on this machine, for tests: who is started by their words sees them, and nobody else. They end with
 the process that made them."""
+import errno
 import os
 import shutil
 import subprocess
@@ -38,11 +39,14 @@ class Disk:
         return disk.f_bavail * disk.f_frsize
 
     def fill(self, room: int) -> None:
-        """Writes a file to it, so that no more than this is left."""
-        with open(os.path.join(self.seen, "of-others"), "wb") as file:
-            while (more := self.room() - room) > 0:
-                file.write(bytes(min(more, 1 << 20)))
-                file.flush()
+        """Writes a file to it, so that no more than this is left. Whoever else writes there may take room behind a look: then it is full."""
+        with open(os.path.join(self.seen, "of-others"), "wb", buffering=0) as file:
+            try:
+                while (more := self.room() - room) > 0:
+                    file.write(bytes(min(more, 1 << 20)))
+            except OSError as full:
+                if full.errno != errno.ENOSPC:
+                    raise
 
     def end(self) -> None:
         """Moves what is on it into the folder itself, but for what filled it. Who uses it has to have ended."""

@@ -300,9 +300,27 @@ def test_full_disk() -> None:
         come_back(name, small)
 
 
+def test_disk_that_others_fill() -> None:
+    """Where others take room behind a look at a disk, who fills that finds it full, and goes on."""
+    class Crowded(Disk):
+        """A disk on which a piece is taken behind each look."""
+
+        def room(self) -> int:
+            return super().room() + disks.A_PIECE
+
+    os.mkdir("place")
+    disk = Crowded(os.path.abspath("place"), ROOM)
+    try:
+        disk.fill(0)
+        if (left := disk.room() - disks.A_PIECE) != 0:
+            raise Trouble(f"{left} bytes are left")
+    finally:
+        disk.close()
+
+
 TESTS = [test_streams, test_no_drop_copies, test_numbers_fence, test_kills, test_all_servers_stop, test_one_server, test_no_server,
          test_server_stands_still, test_full_store, test_no_store]
 if disks.can_be_had():
-    TESTS.append(test_full_disk)
+    TESTS += [test_full_disk, test_disk_that_others_fill]
 else:
     print("feed/check: no disk is filled: that is for root, where a file system can be mounted", flush=True)

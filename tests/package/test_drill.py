@@ -8,11 +8,12 @@ import subprocess
 
 import pytest
 
+import drill
 from drill_ceph import Ceph
 from drill_contract import is_left
 from drill_gluster import Gluster
 from drill_machines import children
-from venues import await_that
+from venues import Late, Trouble, Unseen, await_that
 
 pytestmark = pytest.mark.quick
 for_root = pytest.mark.skipif(os.geteuid() != 0 or not shutil.which("unshare"), reason="it is for root, who may have a machine, by unshare")
@@ -41,6 +42,25 @@ def test_what_machines_leave() -> None:
         for it in (theirs, lasting):
             it.send_signal(signal.SIGKILL)
             it.wait()
+
+
+class Stood:
+    """A machine that stood still for so many seconds, whenever that is asked."""
+
+    def __init__(self, seconds: float) -> None:
+        self.seconds = seconds
+
+    def between(self, since: float, until: float) -> float:
+        return self.seconds
+
+
+@pytest.mark.parametrize("fault, seconds, kind", ((Unseen, 1.9, Unseen), (Unseen, 17.2, Late), (Trouble, 17.2, Trouble)))
+def test_machines_that_stand_still(fault: type[Trouble], seconds: float, kind: type[Trouble], monkeypatch: pytest.MonkeyPatch) -> None:
+    """What isn't seen in its time came too late where the machine stood still, and there alone. What is lost is no such thing."""
+    monkeypatch.setattr(drill, "standstills", lambda: Stood(seconds))
+    with pytest.raises(Trouble, match="^nobody serves") as seen, drill.late_where_it_stood():
+        raise fault("nobody serves")
+    assert (type(seen.value), "still for 17.2 s" in str(seen.value)) == (kind, kind is Late)
 
 
 def test_what_plants_tell() -> None:

@@ -2,6 +2,7 @@
 ceph is a script that notes what it is asked; and of what dev/drill_ceph.py makes of Ceph's words. dev/failover-drill --store cephfs has
 both on Ceph's own programs."""
 import contextlib
+import fcntl
 import json
 import os
 import re
@@ -10,7 +11,9 @@ import socket
 import subprocess
 import sys
 import tempfile
+import termios
 import threading
+import time
 from collections.abc import Iterator
 
 import pytest
@@ -19,7 +22,7 @@ import drill_ceph
 from checks import ROOT, text_of
 from gikvand.words import sure
 from test_standby import STANDBY, put, stub
-from venues import Lines, Trouble, await_that
+from venues import Late, Lines, Trouble, await_that, in_some_try
 
 pytestmark = pytest.mark.quick
 for_root = pytest.mark.skipif(os.geteuid() != 0 or not shutil.which("ip"), reason="it is for root, who may have a network, by ip")
@@ -79,11 +82,13 @@ class Network:
         return int(self.answer(f"`{line}`"))
 
     def end(self) -> None:
-        """Ends the machine, and all that runs there."""
-        self.machine.kill()
-        self.machine.wait(LONG)
+        """Ends the machine, and waits until nothing runs there: its first process is the shell, which ends behind its last line."""
         with contextlib.suppress(BrokenPipeError):
             sure(self.machine.stdin).close()
+        with contextlib.suppress(subprocess.TimeoutExpired):
+            self.machine.wait(LONG)
+        self.machine.kill()
+        self.machine.wait(LONG)
 
     def fences(self, program: str = FENCE, *more: str) -> None:
         """Starts it, for all machines."""
@@ -188,6 +193,23 @@ def test_a_machine_that_hears_nobody(network: Network) -> None:
 
 
 @for_root
+def test_a_machine_that_stood_still(network: Network) -> None:
+    """Who stands still as it is cut off has heard the others just before, and evicts nobody by that: m2 and m3 are found silent at once, and
+    m4 only where nothing comes back from a cable."""
+    network.fences()
+    network.answers("m4")
+    for name in ("m2", "m3", "m4"):
+        await_that(f"{name} answers", lambda: network.last_of(name).endswith(" answers"))
+    assert network.does("kill -STOP $!; ip address flush dev lo") == 0
+    assert network.does("ip link add cable type veth peer name other && ip link set cable up && ip link set other up") == 0
+    assert network.does(f"ip address add 10.9.1.1/32 dev cable && ip route add {OTHERS['m4']} dev cable") == 0
+    assert network.does("sleep 3; kill -CONT $!") == 0
+    for name in ("m2", "m3", "m4"):
+        await_that(f"{name} is silent", lambda: network.last_of(name).endswith(" is silent"))
+    assert (network.does("sleep 1"), network.lines("asked")) == (0, [])  # (time for a wrong one)
+
+
+@for_root
 def test_evictions_that_fail(network: Network) -> None:
     """Where the metadata server refuses, or a client is left, it is asked again and again, until there is none."""
     put(f"{network.folder}/refuses", b"")
@@ -246,9 +268,20 @@ def test_commands_that_begin_late(network: Network) -> None:
     """A command that was ended lets the next one take longer: so one that only begins late comes to its end."""
     put(f"{network.folder}/late", b"2")
     network.fences(with_times(network, LONGEST=1))
+    in_some_try(lambda number: begins_late(network, number), "commands_that_begin_late")
+
+
+def begins_late(network: Network, number: int) -> None:
+    """The eviction of this number. Where fence-ceph stands still meanwhile it finds the first command at its end, and ends none."""
+    before = len(network.lines("asked"))
     network.falls_silent("m3")
-    network.await_evicted("m3")
-    assert network.lines("asked")[:2] == [of_an_eviction("m3")[0]] * 2
+    network.await_evicted(*("m3",) * number)
+    first, second = network.lines("asked")[before:][:2]
+    network.answers("m3")
+    evict, look = of_an_eviction("m3")
+    if second == look:
+        raise Late(f"expected that {first} is ended came {second}")
+    assert [first, second] == [evict, evict]
 
 
 @for_root
@@ -276,9 +309,17 @@ def test_the_own_mounts(network: Network) -> None:
     """Without machines what is left of the own mounts is evicted, and the status says whether that could be done."""
     assert (network.does(f"{FENCE} /srv/venue"), network.lines("asked")) == (0, of_an_eviction("m1"))
     put(f"{network.folder}/refuses", b"")
+    in_some_try(lambda _: is_refused(network), "the_own_mounts")
+
+
+def is_refused(network: Network) -> None:
+    """It is asked again and again until its time is over, of which nothing may be left where fence-ceph stands still meanwhile."""
+    before = len(network.lines("asked"))
     assert network.does(f"{with_times(network, OWN=3)} /srv/venue") == 1
-    asked = network.lines("asked")[2:]
-    assert (len(asked) > 1, set(asked)) == (True, {of_an_eviction("m1")[0]})
+    asked = network.lines("asked")[before:]
+    if len(asked) < 2:
+        raise Late(f"expected to be asked again came {asked}")
+    assert set(asked) == {of_an_eviction("m1")[0]}
 
 
 @for_root
@@ -347,6 +388,14 @@ def test_what_ceph_says() -> None:
         assert (ops, drill_ceph.is_with_one_more(said)) == (ops, is_torn)
 
 
+def send_in_pieces(ends: socket.socket, answer: bytes) -> None:
+    """Sends so much, each piece of which the other end has taken before the next one comes: no read can have two."""
+    for at in range(0, len(answer), 30_000):
+        ends.sendall(answer[at:at + 30_000])
+        while int.from_bytes(fcntl.ioctl(ends, termios.TIOCOUTQ, bytes(4)), sys.byteorder):
+            time.sleep(0.0002)
+
+
 def test_what_a_daemon_answers() -> None:
     """A daemon's socket takes a command and a byte 0, and answers a length of four bytes and so many, in pieces. Where there is none, or
     none that answers so, nothing is told yet."""
@@ -364,8 +413,7 @@ def test_what_a_daemon_answers() -> None:
                     requests.append(b"")
                     while not requests[-1].endswith(b"\0"):
                         requests[-1] += ends.recv(100)
-                    for at in range(0, len(answer), 30_000):
-                        ends.sendall(answer[at:at + 30_000])
+                    send_in_pieces(ends, answer)
 
         thread = threading.Thread(target=serve, daemon=True)
         thread.start()

@@ -28,7 +28,7 @@ class Followed(board.Board):
     def __init__(self) -> None:
         super().__init__(JOURNAL, contents(f"{JOURNAL}.symbols").decode().split())
         running.append(self)
-        self.turned(lambda it: it.has_caught_up)
+        self.turned(lambda it: it.has_caught_up or it.trouble)  # (its venue-events may have ended before it looks first)
 
     def kill(self) -> None:
         self.end()

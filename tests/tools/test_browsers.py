@@ -4,18 +4,20 @@ import contextlib
 import itertools
 import json
 import os
+import select
 import signal
 import socket
+import time
 from collections.abc import Iterator
 from typing import Any, BinaryIO
 from unittest import mock
 
 import pytest
 
-from gikvand import board, pages
+from gikvand import board, follow, pages
 from made_journals import JOURNAL, contents, gikvand, made, put
-from running_tools import Running
-from venues import HOST, PATIENCE, Trouble, await_that, free_port, replay
+from running_tools import Running, kept_ports
+from venues import HOST, PATIENCE, Trouble, await_that, replay
 
 pytestmark = [pytest.mark.slow, pytest.mark.usefixtures("programs")]
 
@@ -90,6 +92,23 @@ def test_browsers() -> None:
         await_that("who left is let go", lambda: shown.listeners == 0)
 
 
+def test_last_words() -> None:
+    """The server ends once who listens was told of that, however late its turn at the processor comes."""
+    shown, following = pages.Shown(), pages.Shown.next
+
+    def late(it: pages.Shown, number: int) -> tuple[int, bytes]:
+        found = following(it, number)
+        time.sleep(1)
+        return found
+    with mock.patch.object(pages.Shown, "next", late), mock.patch.object(pages, "PATIENCE", PATIENCE):
+        with pages.serving(0, PAGE, shown) as address:
+            one = listening(address)
+            await_that("one listens", lambda: shown.listeners == 1)
+        assert shown.listeners == 0
+    with one, one.makefile("rb") as heard:
+        assert heard.read().endswith(pages.ENDED)
+
+
 def test_slow_browsers() -> None:
     """One that takes nothing, and one that stops within its request or sends it byte by byte, is let go in time."""
     shown, count = pages.Shown(), itertools.count()
@@ -118,10 +137,10 @@ def test_crowds() -> None:
         path = address[address.index("/", 7):]
         crowd: list[socket.socket] = []
         def is_full() -> bool:
+            """Whether a further one is closed, and as many as there is room for aren't. (Who was answered may still take room.)"""
             crowd.append(socket.create_connection((HOST, port_in(address))))
-            return not asked_quietly(address, path)
+            return not asked_quietly(address, path) and len(crowd) - len(select.select(crowd, [], [], 0)[0]) >= pages.MOST
         await_that("there is no room", is_full)
-        assert len(crowd) >= pages.MOST
         for it in crowd:
             it.close()
         await_that("there is room again", lambda: PAGE.encode() in asked_quietly(address, path))
@@ -175,6 +194,23 @@ def test_ends_of_a_board() -> None:
     await_that("its venue-events has ended", lambda: not os.path.exists(f"/proc/{follower}/exe"))
 
 
+@pytest.mark.usefixtures("journal")
+def test_a_board_that_stands_still() -> None:
+    """A board that is stopped, and goes on behind that, serves its page still: that was no signal which ends it."""
+    it = Running(JOURNAL)
+    address = it.address()
+    with socket.create_connection((HOST, port_in(address)), PATIENCE) as listens:
+        listens.sendall(get(f"{address[address.index('/', 7):]}events"))
+        next(it for it in told_in(listens.makefile("rb")) if it["caught_up"])
+    for _ in range(5):
+        it.process.send_signal(signal.SIGSTOP)
+        os.waitid(os.P_PID, it.process.pid, os.WSTOPPED)
+        time.sleep(2 * follow.PAUSE)
+        it.process.send_signal(signal.SIGCONT)
+        assert contents(board.PAGE) in asked(address, get(address[address.index("/", 7):]))
+    assert it.end() == (0, None)
+
+
 def test_words_of_board() -> None:
     put(JOURNAL, made(3).data)
     put("known.journal", made(3).data)
@@ -199,6 +235,7 @@ def test_words_of_board() -> None:
             status, out, err = gikvand("board", *words)
             assert (words, status, out) == (words, 2, [])
             assert (words, err[-1:] if line else bool(err)) == (words, [f"gikvand board: {line}"] if line else True)
-    it = Running("known.journal", "--port", str(port := free_port(1)))
-    assert it.address().startswith(f"http://127.0.0.1:{port}/")
-    assert it.end() == (0, None)
+    with kept_ports(1) as port:
+        it = Running("known.journal", "--port", str(port))
+        assert it.address().startswith(f"http://127.0.0.1:{port}/")
+        assert it.end() == (0, None)

@@ -26,7 +26,7 @@ from made_journals import (BEHIND, DAY, JOURNAL, TOOLS, Made, contents, each_ver
 from noting import LOCKED, can_be_noted, noted, order_of
 from running_tools import Follower, await_copy
 from traders import Member
-from venues import PATIENCE, Client, Trouble, Venue, await_that, free_port, started
+from venues import PATIENCE, Client, Trouble, await_that, started
 
 pytestmark = [pytest.mark.slow, pytest.mark.usefixtures("programs")]
 
@@ -384,8 +384,8 @@ def test_a_standby() -> None:
     assert sure(follower).end(signal.SIGTERM)[0] == 0
     assert contents("the.copy") == whole[:journals.read(whole).gate] + journals.CLOSED
     assert gikvand("verify", "the.copy")[0] == 0
-    standby = Venue(free_port(1), "the.copy", 1, contents("the.copy.symbols").decode().split())
-    assert (standby.ready(), counts[0] > 100) == (counts, True)
+    standby = started("the.copy", 1, contents("the.copy.symbols").decode().split())
+    assert (standby.stop(), counts[0] > 100) == (counts, True)
 
 
 def test_ends_of_a_follower() -> None:
@@ -404,6 +404,22 @@ def test_ends_of_a_follower() -> None:
         change()
         err = follower.process.communicate(timeout=PATIENCE)[1]
         assert (follower.process.returncode, untimed(err)) == (2, f"gikvand follow: {JOURNAL} {words}\n")
+
+
+def test_cut_behind_a_look() -> None:
+    """A journal that is cut right behind a look at its length has become shorter as well, whatever is looked at next."""
+    put(JOURNAL, made(3).data)
+    check, has_caught_up = Source.check, False
+    def rested(seconds: float) -> bool:
+        nonlocal has_caught_up
+        has_caught_up |= seconds > 0
+        return False
+    def cut(source: Source) -> None:
+        check(source)
+        if has_caught_up:
+            os.truncate(JOURNAL, 100)
+    with mock.patch.object(module(), "has_signal", rested), mock.patch.object(Source, "check", cut):
+        assert followed(JOURNAL, "the.copy")[::2] == (2, [f"gikvand follow: {JOURNAL} has become shorter than what was read of it"])
 
 
 def test_copies_that_go() -> None:

@@ -12,10 +12,10 @@ from collections.abc import Iterator
 import pytest
 
 from checks import put_text, ran
-from gikvand.ports import free_port
 from gikvand.words import sure
 from made_journals import TOOLS
 from refusals import compiled
+from running_tools import kept_ports
 from venues import REPLAY, VENUED, Late, in_some_try
 
 pytestmark = [pytest.mark.slow, pytest.mark.skipif(not shutil.which("cc"), reason="cc compiles tests/liar.c")]
@@ -32,9 +32,11 @@ export LD_PRELOAD={folder}/liar.so LIAR_FOLDER={folder}/store LIAR_STATE={folder
 export PATH={programs}:$PATH
 exec sh -c "$1"
 """
-# Whoever is cut off is fenced at once: there is one fence more, and this machine was fenced last.
+# Whoever is cut off is fenced at once, between two calls: there is one fence more, and this machine was fenced last.
 CUT = """#!/bin/sh
 name=$(basename "$1") state={folder}/state
+exec 9>>"$state/moment"
+flock 9
 : >"$state/cut-$name"
 printf x >>"$state/epoch"
 cp "$state/epoch" "$state/fenced-$name"
@@ -159,8 +161,8 @@ def test_success_while_cut_off() -> None:
 def test_a_venue_goes_on() -> None:
     """Last a real venue goes on: behind its end, a cut and a loss; what its members were told stands in the journal."""
     for happens, what in (((), "its end"), (("cut", "join"), "a cut"), (("kill", "start"), "a loss")):
-        with store(programs=os.path.dirname(VENUED)) as folder:
-            status, said, last = tried(folder, *happens, more=("--port", f"{free_port(4)}", "--rounds", "1"))
+        with store(programs=os.path.dirname(VENUED)) as folder, kept_ports(4) as port:
+            status, said, last = tried(folder, *happens, more=("--port", f"{port}", "--rounds", "1"))
             found = re.fullmatch(rf"pass: it goes on [\d.]+ s behind {what}, and (\d+) reports that its members were told stand in "
                                  "the journal", said["a venue"])
             assert (happens, status, said["a venue"] if not found else "") == (happens, 0, "")
@@ -170,9 +172,9 @@ def test_a_venue_goes_on() -> None:
 @pytest.mark.usefixtures("programs")
 def test_a_venue_that_loses_reports() -> None:
     """A report that a member was told, and that the journal doesn't tell, is found: here venue-replay leaves one out."""
-    with store(programs=os.path.dirname(VENUED)) as folder:
+    with store(programs=os.path.dirname(VENUED)) as folder, kept_ports(4) as port:
         path = put_text(f"{folder}/replay", f'#!/bin/sh\n{REPLAY} "$@" | sed 3d\n', stat.S_IRWXU)
-        more = ("--port", f"{free_port(4)}", "--rounds", "1")
+        more = ("--port", f"{port}", "--rounds", "1")
         status, said, last = tried(folder, more=more, VENUE_REPLAY=path)
         assert (status, said["a venue"][:34]) == (1, "fail: C1: the venue didn't tell it")
 

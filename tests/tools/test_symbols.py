@@ -12,6 +12,7 @@ from checks import ROOT
 from gikvand import journals
 from made_journals import JOURNAL, TOOLS, called, contents, gikvand, put
 from noting import can_be_noted, noted, order_of
+from running_tools import kept_ports
 from venues import HOST, PATIENCE, free_port
 
 pytestmark = [pytest.mark.slow, pytest.mark.usefixtures("programs")]
@@ -131,23 +132,23 @@ def test_calls_of_the_symbols() -> None:
 
 def test_starts_of_the_service() -> None:
     """A start is done once each port listens, and has failed where the program ended before. Nobody else may listen there."""
-    first = free_port(2)
-    ports = {"PORT": str(first), "GATEWAYS": "2"}
-    put(JOURNAL, journals.empty())
-    with socket.create_server((HOST, first + 1)):
-        assert of_the_service("ExecStartPre", "ABC", **ports) == (1, f"somebody listens at port {first + 1}\n")
-    assert of_the_service("ExecStartPre", "ABC", **ports) == (0, "")
-    main = subprocess.Popen(["sleep", "600"])
-    waits = subprocess.Popen([*words_of_the_service("ExecStartPost")[0][:3], str(main.pid)],
-                             env={"SYMBOLS": "ABC", "PATH": "/usr/bin:/bin", **ports})
-    try:
-        with socket.create_server((HOST, first)):
-            with contextlib.suppress(subprocess.TimeoutExpired):
-                assert waits.wait(1) == "no end while one of both ports listens"
-            with socket.create_server((HOST, first + 1)):
-                assert (waits.wait(PATIENCE), contents(f"{JOURNAL}.symbols")) == (0, b"ABC\n")
-    finally:
-        for it in (main, waits):
-            it.kill()
-            it.wait()
-    assert of_the_service("ExecStartPost", "ABC", str(main.pid), **ports)[0] == 1
+    with kept_ports(2) as first:
+        ports = {"PORT": str(first), "GATEWAYS": "2"}
+        put(JOURNAL, journals.empty())
+        with socket.create_server((HOST, first + 1)):
+            assert of_the_service("ExecStartPre", "ABC", **ports) == (1, f"somebody listens at port {first + 1}\n")
+        assert of_the_service("ExecStartPre", "ABC", **ports) == (0, "")
+        main = subprocess.Popen(["sleep", "600"])
+        waits = subprocess.Popen([*words_of_the_service("ExecStartPost")[0][:3], str(main.pid)],
+                                 env={"SYMBOLS": "ABC", "PATH": "/usr/bin:/bin", **ports})
+        try:
+            with socket.create_server((HOST, first)):
+                with contextlib.suppress(subprocess.TimeoutExpired):
+                    assert waits.wait(1) == "no end while one of both ports listens"
+                with socket.create_server((HOST, first + 1)):
+                    assert (waits.wait(PATIENCE), contents(f"{JOURNAL}.symbols")) == (0, b"ABC\n")
+        finally:
+            for it in (main, waits):
+                it.kill()
+                it.wait()
+        assert of_the_service("ExecStartPost", "ABC", str(main.pid), **ports)[0] == 1

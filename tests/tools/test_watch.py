@@ -218,7 +218,14 @@ def test_a_venue_watched() -> None:
     one.send("D", order(1, 1, 5, 50))
     one.next()
     waiting = [Client(venue.port, 1) for _ in range(3)]
-    time.sleep(0.3)
+    mine, other = '{member="C1"}', '{member="C2"}'
+    quick = ["watch", JOURNAL, "--prometheus", "--quick"]
+
+    def there() -> float:
+        """How many are connected to C1, or wait."""
+        found = figures_of(gikvand(*quick)[1])
+        return found[f"gikvand_member_connections{mine}"] + found[f"gikvand_member_waiting{mine}"]
+    await_that("all four are there", lambda: there() == 4)
     status, out, err = gikvand("watch", JOURNAL)
     size = os.path.getsize(JOURNAL)
     assert (status, err, out[0].startswith(f"venued (process {venue.process.pid}) serves {JOURNAL} for "), out[2]) == (
@@ -227,7 +234,6 @@ def test_a_venue_watched() -> None:
     assert [out[3].split(",")[0].split(" at ")[0], out[4]] == (
         ["C1", f"C2 at {venue.port + 1}: 0 connections, 0 waiting, 0 bytes not taken, 0 bytes not read"])
     found = figures_of(gikvand("watch", JOURNAL, "--prometheus")[1])
-    mine, other = '{member="C1"}', '{member="C2"}'
     assert [found[f"gikvand_{it}"] for it in ("up", "journal_bytes", "commands_total", "outputs_total", "threads")] == (
         [1, size, 1, 1, 7])
     assert found[f"gikvand_member_connections{mine}"] + found[f"gikvand_member_waiting{mine}"] == 4
@@ -247,7 +253,6 @@ def test_a_venue_watched() -> None:
     deaf.log_on()
     for name in range(1, 3000):
         deaf.send("F", cancel(name, 10 ** 9, 1, 5))
-    quick = ["watch", JOURNAL, "--prometheus", "--quick"]
     await_that("reports aren't taken", lambda: figures_of(gikvand(*quick)[1])[f"gikvand_member_unsent_bytes{other}"] > 1000)
     assert figures_of(gikvand(*quick)[1])[f"gikvand_member_connections{other}"] == 1
     deaf.close()

@@ -57,8 +57,11 @@ def signals_held() -> Iterator[None]:
 
 
 def has_signal(seconds: float) -> bool:
-    """Whether a signal has come that ends it, or comes within this time."""
-    return signal.sigtimedwait(ENDS, seconds) is not None
+    """Whether a signal has come that ends it, or comes within this time. (Python's sigtimedwait tells of one that never came, where the
+    process is stopped while it waits, and goes on later.)"""
+    if seconds:  # (A sleep for no time takes some.)
+        time.sleep(seconds)
+    return signal.sigtimedwait(ENDS, 0) is not None
 
 
 def common(one: bytes, other: bytes) -> int:
@@ -139,6 +142,7 @@ class Source:
             end = min(copy.gate, start + A_LOOK)
             ours = os.pread(copy.fd, end - start, start)
             if os.pread(self.file.fileno(), end - start, start) != ours:
+                self.check()  # It may have become shorter behind the look before.
                 raise Trouble(f"{self.path} or {copy.path} was written over: they differ before the byte {end}")
 
 

@@ -16,7 +16,7 @@ from gikvand.programs import Trouble
 from gikvand.words import sure
 
 OURS = re.compile(r"(127\.0\.0\.1|localhost)(:[0-9]{1,5})?")  # Whom requests are for. Other names are another page's trick.
-PATIENCE = 10      # Seconds that a browser has for its request, and to take what is sent,
+PATIENCE = 10      # Seconds that a browser has for its request, and to take what is sent, also at the end,
 A_SIGN = 10        # and after which it hears that nothing has changed.
 MOST = 32          # Connections at a time.
 ENDED = b"event: ended\ndata: \n\n"
@@ -36,10 +36,11 @@ class Shown:
                 self.changed.notify_all()
 
     def end(self) -> None:
-        """Lets those who listen know that nothing more comes."""
+        """Lets those who listen know that nothing more comes, and waits until they were told: else the program may end before."""
         with self.changed:
             self.has_ended = True
             self.changed.notify_all()
+            self.changed.wait_for(lambda: not self.listeners, PATIENCE)
 
     def next(self, number: int) -> tuple[int, bytes]:
         """What is newer than this, with its number, or nothing where nothing is for a while."""
@@ -56,6 +57,7 @@ class Shown:
         finally:
             with self.changed:
                 self.listeners -= 1
+                self.changed.notify_all()
 
 
 def policy(page: str) -> str:
