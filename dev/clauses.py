@@ -56,7 +56,7 @@ TOP_OF_TRIED = """\
 ## Tried at every check
 
 These wrong bodies were named when the promises were set. Each is the body that its row tells of. Every check tries all
-of them by `dev/edits --must-fail`, which sees that the function of its row refuses it, and by `rt ci` those of
+of them by `dev/edits --must-fail`, which sees that the function of its row refuses it, and by `rt ci` one of
 `sequencer` once more. Of all others a check tries as many as four minutes allow, in an order that the commit decides;
 `dev/edits` tries all.
 

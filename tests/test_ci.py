@@ -18,7 +18,7 @@ from typing import NamedTuple
 import pytest
 
 import crates
-from checks import ROOT, copy_program, put_text
+from checks import ROOT, copy_program, put_text, text_of
 from script_modules import loaded
 from venues import Late, in_some_try
 
@@ -29,6 +29,7 @@ RUN, CHECK = (os.path.abspath(os.environ.get(name, os.path.join(ROOT, path)))
 MODULES = ("scripts/crates.py", "scripts/debian.py", "scripts/needs_python.py")
 PATIENCE = 120
 PART = '#!/bin/bash\necho "{name} $*" >>{asked}\n{does}\n'
+NOTES = 'echo "${0##*/} $* in ${PWD##*/}" >>"$NOTED"\n'
 A_PLAY = "tests/one.play"
 # In the place of Python, which is started once in a check, and not for each part: that takes as long as ten scripts. Asked for pytest it
 # does what the script does that has the name of its words, with as many workers as the table says; asked for modules it has them all.
@@ -320,6 +321,28 @@ def test_packages_while_others_are_installed(words: list[str]) -> None:
     with open("asked", encoding="ascii") as file:
         options = [" ".join(line.split()[1:3]) for line in file]
     assert options == ["-o DPkg::Lock::Timeout=600"]
+
+
+@pytest.mark.parametrize("words, status, asked", (
+    (("--tests",), 0, ["rt lib"]), (("--tests", "--as-made"), 0, ["rt doc", "rattle build"]), (("--tests", "--as-made"), 3, ["rt doc", "rattle build"])))
+def test_framer_as_made(words: tuple[str, ...], status: int, asked: list[str]) -> None:
+    """Behind `rt ci` the crates below the framer are taken as they stand: the prover makes the library of that crate, and rt none."""
+    for name in ("edge/setup", "edge/packages.bash", "scripts/library-for-c", "scripts/crates.py", "scripts/needs_python.py", "crates.txt"):
+        copy_program(name)
+    put_text("kit/bin/rattle", f"#!/bin/sh\n{NOTES}echo says\necho why >&2\nexit {status}\n", 0o755)
+    put_text("path/rt", f"#!/bin/sh\n{NOTES}echo {os.path.abspath('kit')}/START-HERE.md\n", 0o755)
+    put_text("path/dpkg-query", "#!/bin/sh\necho installed\n", 0o755)
+    put_text("path/cmake", "#!/bin/sh\nexit 1\n", 0o755)
+    put_text("crates/edge_frames_c/src/lib.rt", "")
+    environment = {**os.environ, "PATH": f"{os.path.abspath('path')}:{os.environ['PATH']}", "NOTED": os.path.abspath("asked")}
+    made = subprocess.run(["edge/setup", *words], env=environment, capture_output=True, text=True)
+    lines = text_of(os.path.abspath("asked")).splitlines()
+    assert [" ".join(it.split()[:2]) for it in lines] == asked
+    why = "the proved framer can't be built: crates/edge_frames_c/out/lib.log says why" if status else "cmake can't prepare out"
+    assert (made.returncode, made.stderr) == (1, f"edge/setup: {why}\n")
+    if words[1:]:
+        assert re.search(r"--crate-name edge_frames_c src/lib.rt .* --crate-type staticlib .* -o out/libedge_frames_c.a in edge_frames_c$", lines[-1])
+        assert text_of(os.path.abspath("crates/edge_frames_c/out/lib.log")) == "says\nwhy\n"
 
 
 @EVERY_KIND

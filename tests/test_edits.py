@@ -3,6 +3,7 @@ doesn't, that a right body has to be proved, and which edits are tried.
 
 EDITS in the environment names another dev/edits, and CLAUSES another dev/planted.py: tests/known_bad.py puts wrong ones there.
 """
+import math
 import os
 import subprocess
 import sys
@@ -10,6 +11,7 @@ import sys
 import pytest
 
 from checks import ROOT, copy_program
+from script_modules import loaded
 
 pytestmark = pytest.mark.quick
 
@@ -197,3 +199,31 @@ def test_batches() -> None:
     assert edits()[1][-1] == "3 passed, 0 failed"
     with open("asked", encoding="utf-8") as asked:
         assert asked.read().splitlines() == ["last sum", "twice"]
+
+
+def test_a_budget(monkeypatch: pytest.MonkeyPatch) -> None:
+    """What runs counts as much as the ended ones took on average: nothing begins that would go beyond the budget with them, once enough
+    were tried. Of the lanes there is one for two minutes each, since the first check of a crate takes longest."""
+    module, real, left = loaded(os.path.abspath("dev/edits")), subprocess.Popen, list[bool]()
+
+    def popen(*words: object, **how: object) -> object:
+        left.append(budget.is_left())
+        return real(*words, **how)  # type: ignore[call-overload]
+    monkeypatch.setattr(module.subprocess, "Popen", popen)
+    assert [module.Budget(it).lanes(4) for it in (0.5, 3, 4, 60, math.inf)] == [1, 1, 2, 4, 4]
+    for spent, ended, is_left in ((0, 0, True), (2, 1, True), (119, 2, True), (120, 1, False), (120, 2, True), (160, 2, False)):
+        budget = module.Budget(4)
+        budget.spent, budget.ended, budget.tried = spent, ended, module.LEAST
+        said, status = budget.run(["sh", "-c", "echo so; exit 3"], ".")
+        assert (said, status, left.pop(), budget.is_left(), budget.ended, left) == ("so\n", 3, is_left, True, ended + 1, [])
+    for spent, tried, is_left in ((239, 10, True), (240, 9, True), (240, 10, False)):
+        budget.spent, budget.tried = spent, tried
+        assert budget.is_left() == is_left
+
+
+def test_at_least_ten() -> None:
+    """Where the budget is spent at once ten are tried all the same, each here by a check of its own, and no more."""
+    for it in range(12):
+        edit(f"crates/sums/edits/edit_{it}", f"    goal + {it}")
+    status, lines = edits("--minutes", "0.0001")
+    assert (status, len([it for it in lines if it.startswith("refused ")]), lines[-1]) == (0, 10, "11 passed, 0 failed")
