@@ -15,7 +15,7 @@ from script_modules import loaded
 
 pytestmark = pytest.mark.quick
 
-OWN = ("dev/edits", *(f"dev/{it}.py" for it in ("planted", "contracts", "antt", "with_scripts")),
+OWN = ("dev/edits", *(f"dev/{it}.py" for it in ("bodies", "planted", "contracts", "antt", "with_scripts")),
        *(f"scripts/{it}.py" for it in ("crates", "needs_python", "with_tools")))
 PATIENCE = 120
 SOURCE = """\
