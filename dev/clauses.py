@@ -57,8 +57,8 @@ TOP_OF_TRIED = """\
 
 These wrong bodies were named when the promises were set. Each is the body that its row tells of. Every check tries all
 of them by `dev/edits --must-fail`, which sees that the function of its row refuses it, and by `rt ci` one of
-`sequencer` once more. Of all others a check tries as many as four minutes allow, in an order that the commit decides;
-`dev/edits` tries all.
+`sequencer` once more. Of all others a check tries those whose function
+has changed (`dev/edits --changed`); `dev/edits` tries all.
 
 | wrong body | what it does | refused by |
 |---|---|---|

@@ -14,9 +14,10 @@ STARTED: dict[str, tuple[str, ...]] = {"dev/pages": ("dev/pages",), "tests/test_
 MEASURE, FIGURES, RATCHET, WAY, MAKER = "dev/measures", "dev/figures.py", "dev/ratchet.py", "dev/way.py", "dev/pages"
 PLANTER, CLAUSES, PLANTED, PROMISES = "dev/edits", "dev/clauses.py", "dev/planted.py", "tests/promises.py"
 CALLERS = "dev/callers.py"
+CHANGED = "dev/changed.py"
 WARM = "tests/warm_pytest.py"
 # Files that a test takes by the environment.
-BY_NAME = {PLAY: "PLAY", LINT: "LINT", CHECK: "CHECK", RUN: "CI_RUN", MAKER: "PAGES", PLANTER: "EDITS", WARM: "WARM_PYTEST",
+BY_NAME = {PLAY: "PLAY", LINT: "LINT", CHECK: "CHECK", RUN: "CI_RUN", MAKER: "PAGES", PLANTER: "EDITS", CHANGED: "EDITS", WARM: "WARM_PYTEST",
            **{it: "MEASURES" for it in (MEASURE, FIGURES, RATCHET, WAY, CALLERS)}, **{it: "CLAUSES" for it in (CLAUSES, PLANTED, PROMISES)}}
 
 
@@ -365,6 +366,50 @@ WRONG = {
     "wrong bodies without their crates": Wrong(MAKER, "re.sub(r\"^###(?= )\", \"##\",", "re.sub(r\"^### .*\", \"\",", DOCUMENTS, "made_pages"),
     "decisions of any length": Wrong(MAKER, "> LONGEST:", "> 9 * LONGEST:", DOCUMENTS, "1501"),
     "letters as bytes": Wrong(MAKER, "len(text.encode())", "len(text)", DOCUMENTS, "1501"),
+    "edits of what hasn't changed": Wrong(PLANTER, "if differing := [edit for edit in edits if edit.reason]:", "if differing := edits:", PLANTS,
+                                          "outside lemma changed_ones"),
+    "edits that have changed themselves": Wrong(PLANTER, '["its own file"] if edit.path in changes.paths else []', "[]", PLANTS, "has_changed[edit] new_edit"),
+    "functions that an edit adds, as changed": Wrong(PLANTER, "sorted(edit.before & {*self.functions},", "sorted(edit.before,", PLANTS,
+                                                     "has_changed[clause]"),
+    "edits that are looked at twice": Wrong(PLANTER, "texts, edit.changed, edit.before = edit.applied(self.texts), set(), set()",
+                                            "texts = edit.applied(self.texts)", PLANTS, "changed_ones"),
+    "edits that can't be applied, as passed": Wrong(PLANTER, "                    failed += 1\n", "                    pass\n", PLANTS,
+                                                    "though_nothing"),
+    "edits in must-fail that nobody looks at": Wrong(PLANTER, "        for place in planted.PLACES:\n            for edit in crate.edits(place):\n"
+                                                     "                count", "        for place in planted.PLACES[1:]:\n"
+                                                     "            for edit in crate.edits(place):\n                count", PLANTS, "though_nothing"),
+    "a look that doesn't count": Wrong(PLANTER, "(sum(counts) for counts in zip(looked, ran))", "ran", PLANTS, "changed_ones though_nothing"),
+    "changed edits without a right body": Wrong(PLANTER, "asked.must_fail or asked.changed is not None or", "asked.must_fail or", PLANTS,
+                                                "changed_ones"),
+    "a commit that there isn't, as no history": Wrong(PLANTER, "        if name:\n            print(", "        if False:\n            print(", PLANTS,
+                                                      "no_such_commit"),
+    "no history as a fault": Wrong(PLANTER, "        if name:\n            print(", "        if True:\n            print(", PLANTS, "without_history"),
+    "names beside what has changed": Wrong(PLANTER, "    if asked.changed is not None and (", "    if False and (", PLANTS, "goes_with"),
+    "bodies that have changed": Wrong(CHANGED, "((crate, function), *((crate, callee)", "(*((crate, callee)", PLANTS, "has_changed[body]"),
+    "callees that have changed": Wrong(CHANGED, ", *((crate, callee) for callee in callees), *of_trait", ", *of_trait", PLANTS, "has_changed[callee]"),
+    "contracts of traits that have changed": Wrong(CHANGED, "for callee in callees), *of_trait", "for callee in callees)", PLANTS, "trait_below"),
+    "proofs that have changed": Wrong(CHANGED, "if any(is_proof_of(path, crate, function) for path in self.paths):", "if False:", PLANTS, "has_changed[proof]"),
+    "proofs of functions that call themselves": Wrong(CHANGED, 'folder.rpartition("+")[2] != function.name', "folder != function.name", PLANTS,
+                                                      "proof_of_itself"),
+    "proofs of functions of types": Wrong(CHANGED, "function.owner in above[-1] if function.owner else above[1:] == function.module",
+                                          "above[1:] == function.module", PLANTS, "proof_of_a_type"),
+    "proofs of any module": Wrong(CHANGED, "function.owner else above[1:] == function.module", "function.owner else True", PLANTS, "another_module"),
+    "proofs of any function": Wrong(CHANGED, ' or folder.rpartition("+")[2] != function.name', "", PLANTS, "has_changed[proof]"),
+    "definitions that have changed": Wrong(CHANGED, "if short(entry.path) not in self.paths:", "if True:", PLANTS, "has_changed[definition]"),
+    "definitions by their files": Wrong(CHANGED, "return not self.definitions(crate).has(inside(entry.path), entry.name, text)", "return True", PLANTS,
+                                        "no_clause_names"),
+    "functions and definitions that have moved": Wrong(CHANGED, "self.by_place[file, name] or self.by_name[name]",
+                                                       "self.by_place[file, name]", PLANTS, "has_moved"),
+    "files that have moved": Wrong(CHANGED, '"--no-renames", ', "", PLANTS, "has_moved"),
+    "functions of any file": Wrong(CHANGED, "self.by_place[file, name] or self.by_name[name]", "self.by_name[name]",
+                                   PLANTS, "as_another_was"),
+    "files that no commit has": Wrong(CHANGED, "(differing + untracked)", "differing", PLANTS, "new_edit"),
+    "a commit of the last hours": Wrong(CHANGED, "HOURS = 6", "HOURS = 5", PLANTS, "commit_before"),
+    "a commit of more than six hours": Wrong(CHANGED, "int(seconds) <= latest", "int(seconds) < latest", PLANTS, "commit_before"),
+    "the last commit of a short history": Wrong(CHANGED, "commits[-1][1]", "commits[0][1]", PLANTS, "commit_before"),
+    "commits that came in by a merge": Wrong(CHANGED, '"--first-parent", ', "", PLANTS, "merge"),
+    "a history of a folder around": Wrong(CHANGED, '"GIT_CEILING_DIRECTORIES": os.path.dirname(ROOT)', "", PLANTS, "around"),
+    "a folder without git": Wrong(CHANGED, "    except OSError as why:\n", "    except KeyError as why:\n", PLANTS, "no_git"),
     "paragraphs of any kind": Wrong(MAKER, " or not all(map(str.startswith, parts, PARTS)):", ":", DOCUMENTS, "**Context**"),
     "paragraphs of any number": Wrong(MAKER, "len(parts) != len(PARTS) or ", "", DOCUMENTS, "More."),
     "a decision without a title": Wrong(MAKER, "[] if re.fullmatch(r\"# \\S.*\", title) else", "[] if title else", DOCUMENTS, "form"),
