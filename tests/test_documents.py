@@ -117,11 +117,11 @@ def test_made_pages() -> None:
     said = "\nBy `dev/some`, on 4 cores, 29 November:\n\n| what | seen |\n|---|---|\n| a trip | 1,370 us |\n\n"
     assert text_of("docs/MEASURED.md") == MEASURED.replace(" -->\n<!--", f" -->\n{said}<!--")
     assert text_of("docs/images/a.svg") == "<svg>2026-11-29</svg>\n"
-    # Six made files, two decisions, six lengths, a result, two links of README.md, four of the list, two of which lead to files without a
+    # Six made files, two decisions, a result, two links of README.md, four of the list, two of which lead to files without a
     # number, and one of the wrong bodies.
     assert text_of("contrib/gikvand.bash") == "echo words\n"
     assert text_of(CLAUSES) == "# Clauses\n"
-    assert passes() == 22
+    assert passes() == 16
 
 
 @pytest.mark.parametrize("path, old, new", [("docs/decisions/0001-we-do.md", "# We do", "# We did"), (INDEX, "Others do", "Others did"),
@@ -185,7 +185,7 @@ def test_a_decision_that_comes() -> None:
     refused("as dev/pages --write makes it")
     assert pages("--write") == (0, [])
     assert [it[3:7] for it in text_of(INDEX).splitlines() if it.startswith("- ")] == ["0001", "0002", "0012"]
-    assert passes() == 24
+    assert passes() == 18
 
 
 @pytest.mark.parametrize("text, part", [
@@ -213,26 +213,6 @@ def test_a_number_twice() -> None:
     put("docs/decisions/0012-more.md", DECISION)
     assert pages("--write") == (0, [])
     refused("0012-more.md: its number is another one's too", "0012-others.md: its number is another one's too")
-
-
-@pytest.mark.parametrize("more, part", [(0, ""), (1, "docs/MEASURED.md: 6145 bytes by hand, of 6144 at most")])
-def test_length(more: int, part: str) -> None:
-    """A page of figures has so many bytes by hand, beside tables that are made."""
-    put("bench/results/two.json", RESULT)
-    made = "<!-- results: two -->\n<!-- end -->\n<!-- results: one -->\n<!-- end -->\n"
-    put("docs/MEASURED.md", f"# Measured\n{made}{'é' * 3000}{'.' * (6144 - 13 - 6000 + more)}\n\n")
-    assert pages("--write") == (0, [])
-    if part:
-        refused(part)
-    else:
-        passes()
-
-
-def test_length_of_several() -> None:
-    """Pages that one reader has have so many bytes together."""
-    put("docs/EDGE.md", "# Edge\n")
-    put("docs/PROFILE.md", f"# Profile\n{'.' * 300_000}\n")
-    refused("docs/EDGE.md and docs/PROFILE.md: 300018 bytes by hand, of ")
 
 
 @pytest.mark.parametrize("link, why", [
