@@ -23,7 +23,9 @@ from gikvand.programs import EVENTS, REPLAY, ROOT, VENUED, Trouble  # (EVENTS fo
 from gikvand.words import sure
 
 TIME = "20250102-09:30:00"
-PATIENCE = int(os.environ.get("VENUE_PATIENCE", "30"))  # Seconds to wait for what has to come.
+PATIENCE = int(os.environ.get("VENUE_PATIENCE", "300"))  # Seconds to wait for what has to come: only what hangs takes so long.
+MOST_RAN_OUT = 3             # Waits of one run that may last PATIENCE seconds in vain: behind the last of them the run ends.
+NO_MORE = "three waits ran out: the rest isn't tried"
 TRIES = 10                   # Rows of ports to try: another process may take one before the venue does.
 LATE = 3                     # Tries that have to come too late, one behind the other, so that it isn't the machine's doing.
 SHOWN, LONG = 5, 10.0        # Tests whose seconds are told, and above how many.
@@ -39,7 +41,11 @@ class Late(Trouble):
     """What came too late: by the venue, or since the machine itself stood still for a moment."""
 
 
-class Unseen(Trouble):
+class RanOut(Trouble):
+    """A wait that ended by its bound, without what had to come."""
+
+
+class Unseen(RanOut):
     """What wasn't seen to hold in its time."""
 
 
@@ -47,6 +53,22 @@ def expect(came: object, wanted: object) -> None:
     """Fails the test where something else came."""
     if came != wanted:
         raise Trouble(f"expected {wanted!r} came {came!r}")
+
+
+def ran_out(why: BaseException | None) -> bool:
+    """Whether an exception says that a wait ran out, or was raised from another one that says so."""
+    while why and not isinstance(why, (RanOut, subprocess.TimeoutExpired, TimeoutError)):
+        why = why.__cause__ or why.__context__
+    return why is not None
+
+
+def ended(words: Sequence[str], data: bytes = b"", **options: Any) -> tuple[int, bytes, bytes]:
+    """Runs a program with this input to the program's end, and returns the status and the bytes of both outputs."""
+    try:
+        run = subprocess.run(words, input=data, capture_output=True, timeout=PATIENCE, **options)
+    except subprocess.TimeoutExpired:
+        raise RanOut(f"expected an end came none within {PATIENCE} seconds") from None
+    return run.returncode, run.stdout, run.stderr
 
 
 def in_some_try(run: Callable[[int], T], what: str) -> T:
@@ -106,7 +128,7 @@ class Lines:
         try:
             return self.queue.get(timeout=seconds)
         except queue.Empty:
-            raise Trouble(f"no line within {seconds} seconds") from None
+            raise RanOut(f"no line within {seconds} seconds") from None
 
 
 class Venue:
@@ -137,7 +159,7 @@ class Venue:
         try:
             status = self.process.wait(PATIENCE)
         except subprocess.TimeoutExpired:
-            raise Trouble(f"venued hasn't ended within {PATIENCE} seconds") from None
+            raise RanOut(f"venued hasn't ended within {PATIENCE} seconds") from None
         for lines in (self.out, self.err):
             if line := lines.next():
                 raise Trouble(f"one line too many: {line}")
@@ -226,27 +248,33 @@ def watched(test: Test) -> Test:
         finally:
             threading.excepthook = before
         if ends:
-            raise Trouble(f"its thread {sure(ends[0].thread).name} ended by {ends[0].exc_value!r}")
+            raise Trouble(f"its thread {sure(ends[0].thread).name} ended by {ends[0].exc_value!r}") from ends[0].exc_value
     return run
 
 
 def tried(tests: Sequence[Test], *given: object) -> int:
-    """Tries each test with what is given, and prints which fail, which took long, and how many there are: the status, 1 where one
-    failed."""
-    failed, took = 0, dict[str, float]()
+    """Tries each test with what is given, prints which fail, which took long, and how many passed and failed, and returns the status, 1
+    where one failed. No further test is tried behind the third test whose wait ran out."""
+    count = failed = waits = 0
+    took = dict[str, float]()
     for test in tests:
         begun = time.monotonic()
+        count += 1
         try:
             test(*given)
         except Exception as why:
             print(f"{test.__name__}: {why if isinstance(why, Trouble) else repr(why)}", flush=True)
             failed += 1
+            waits += ran_out(why)
         finally:
             kill_all()
         took[test.__name__] = time.monotonic() - begun
+        if waits == MOST_RAN_OUT:
+            print(NO_MORE, flush=True)
+            break
     longest = [it for it in sorted(took, key=lambda name: -took[name])[:SHOWN] if took[it] > LONG]
     print("".join(f"{it}: {took[it]:.0f} s\n" for it in longest), end="")
-    print(f"{len(tests) - failed} passed, {failed} failed")
+    print(f"{count - failed} passed, {failed} failed")
     return 1 if failed else 0
 
 
@@ -307,7 +335,7 @@ class Client:
             try:
                 data = self.socket.recv(65536)
             except socket.timeout:
-                raise Trouble(f"C{self.member} hears nothing within {PATIENCE} seconds") from None
+                raise RanOut(f"C{self.member} hears nothing within {PATIENCE} seconds") from None
             self.is_over = not data
             self.came, self.rest = parted(self.rest + data)
         return self.came.pop(0) if self.came else None

@@ -1,14 +1,16 @@
 """What tests of programs and pages share: a program that is run to its end, a text of the repository, how many passed, and what can be
 had here. Not a test."""
+import collections
+import concurrent.futures
 import contextlib
 import functools
 import os
 import shutil
 import subprocess
 import sys
-from collections.abc import Iterable
+from collections.abc import Callable, Generator, Iterable
 from importlib.util import cache_from_source
-from typing import AnyStr
+from typing import AnyStr, TypeVar
 
 import with_scripts  # (in front of what stands there, and of what an older Python can't read)
 
@@ -18,6 +20,7 @@ LONG = 300  # Seconds for a program.
 AT_END = contextlib.ExitStack()  # What is left behind all tests of a run.
 # What Python has compiled goes along, so that no copy compiles it anew; a file of that which is just being written doesn't.
 NOT_COPIED = shutil.ignore_patterns("out", "out-*", "*.pyc.*")
+T = TypeVar("T")
 
 
 class Check:
@@ -51,6 +54,21 @@ def printed(*words: object) -> tuple[str, int]:
     it = subprocess.run([sys.executable, *(str(word) for word in words)], stdout=subprocess.PIPE, stderr=subprocess.STDOUT,
                         text=True, timeout=LONG)
     return it.stdout, it.returncode
+
+
+def in_order(pool: concurrent.futures.Executor, calls: Iterable[Callable[[], T]], together: int) -> Generator[T, None, None]:
+    """Yields the results of these calls, in the order of the calls, while so many calls run side by side. No further call begins once the
+    caller takes no further result."""
+    under_way = collections.deque[concurrent.futures.Future[T]]()
+    try:
+        for call in calls:
+            under_way.append(pool.submit(call))
+            if len(under_way) > together:
+                yield under_way.popleft().result()
+        while under_way:
+            yield under_way.popleft().result()
+    finally:
+        pool.shutdown(cancel_futures=True)
 
 
 def text_of(name: str) -> str:

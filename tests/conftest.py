@@ -1,5 +1,6 @@
 """What all tests share: the folders of modules, a folder of its own for each test, the built programs, a venue, its members and its
-journal, a browser, plays as tests, and the last line, `N passed, M failed`, by which scripts/check counts.
+journal, a browser, plays as tests, the end of a run in which three waits ran out, and the last line, `N passed, M failed`, by which
+scripts/check counts.
 
 The package gikvand is that of the folder tools, or of the one that the environment's TOOLS names: tests/known_bad.py puts wrong ones
 there. The programs are those of scripts/build and edge/setup, or those that VENUED, VENUE_REPLAY, VENUE_EVENTS and GIKVAND_EDGE name;
@@ -13,7 +14,8 @@ import shutil
 import signal
 import sys
 import tempfile
-from collections.abc import Callable, Iterator
+from collections.abc import Callable, Generator, Iterator
+from typing import Any
 
 import pytest
 from _pytest.assertion import util
@@ -33,6 +35,7 @@ import made_journals
 import refusals
 import venues
 from gikvand import journals
+from gikvand.words import sure
 from script_modules import loaded
 
 FROM_DEBIAN = {"mandoc": "mandoc", "lintian": "lintian", "systemd-analyze": "systemd", "systemd-sysusers": "systemd",
@@ -67,7 +70,7 @@ def folder() -> Iterator[pathlib.Path]:
 def has_an_end(request: pytest.FixtureRequest) -> Iterator[None]:
     """A test that waits for what never comes fails there, but for those that may take long."""
     def ends(number: int, frame: object) -> None:
-        raise venues.Trouble(f"the test hasn't ended within {A_TEST} seconds")
+        raise venues.RanOut(f"the test hasn't ended within {A_TEST} seconds")
     before = signal.signal(signal.SIGALRM, ends)
     signal.alarm(0 if request.node.get_closest_marker("long") else A_TEST)
     yield
@@ -153,7 +156,7 @@ class Play(pytest.Item):
         built = {"venued": venues.VENUED, "venue-replay": venues.REPLAY}
         venues.programs.need(*built.values())
         if fault := loaded("dev/play").play(str(self.path), built):
-            raise venues.Trouble(fault)
+            raise fault
 
     def repr_failure(self, excinfo: pytest.ExceptionInfo, style: object = None) -> str:
         return str(excinfo.value)
@@ -173,6 +176,35 @@ class PlayFile(pytest.File):
 
 def pytest_collect_file(file_path: pathlib.Path, parent: pytest.Collector) -> pytest.Collector | None:
     return PlayFile.from_parent(parent, path=file_path) if file_path.suffix == ".play" else None
+
+
+class Waits:
+    """Counts the tests of a run whose waits ran out. No further test begins behind the third one."""
+
+    def __init__(self, session: pytest.Session) -> None:
+        self.session, self.count = session, 0
+
+    @pytest.hookimpl(trylast=True)  # (behind who counts the test as failed)
+    def pytest_runtest_logreport(self, report: pytest.TestReport) -> None:
+        """Counts the report of a test, and ends the run at the third one. pytest-xdist, whose plugin dsession hands tests to workers, doesn't
+        look at shouldfail: there an exception ends the run."""
+        self.count += getattr(report, "ran_out", False)
+        if self.count == venues.MOST_RAN_OUT:
+            self.session.shouldfail = venues.NO_MORE
+            if self.session.config.pluginmanager.has_plugin("dsession"):
+                raise self.session.Failed(venues.NO_MORE)
+
+
+def pytest_sessionstart(session: pytest.Session) -> None:
+    """Begins to count. Where workers play the tests, the process that hands the tests to the workers counts the reports of all."""
+    session.config.pluginmanager.register(Waits(session))
+
+
+@pytest.hookimpl(hookwrapper=True)
+def pytest_runtest_makereport(call: pytest.CallInfo[None]) -> Generator[None, Any, None]:
+    """Marks the report of a test that failed since a wait ran out. A worker sends the mark along with the report."""
+    report = (yield).get_result()
+    report.ran_out = report.failed and venues.ran_out(sure(call.excinfo).value)
 
 
 def pytest_addoption(parser: pytest.Parser) -> None:

@@ -39,7 +39,7 @@ from gikvand import journals
 from gikvand.journals import Entry
 from measuring import instructions
 from mixed_day import write_journal
-from venues import REPLAY, VENUED, Trouble, message, need_programs, order
+from venues import MOST_RAN_OUT, NO_MORE, REPLAY, VENUED, Trouble, message, need_programs, order, ran_out
 
 ABOVE, BELOW = 0.02, 0.04
 SYMBOLS = ["A", "BB", "CCC", "DDDD", "EEEEE", "F6", "G77", "H888"]
@@ -173,19 +173,24 @@ def main() -> int:
         need_programs()
     except Trouble as why:
         sys.exit(f"instructions: {why}")
-    runs, failed = (session, one_symbol, eight_symbols, deep_sells, deep_buys, one_spot, last_of_eight), 0
+    runs = (session, one_symbol, eight_symbols, deep_sells, deep_buys, one_spot, last_of_eight)
     look: Callable[..., object] = tried
     if asked.show:
         look = counted
     tests: dict[str, Callable[[], object]] = {it.__name__: functools.partial(look, it) for it in runs}
     tests["mirrored"] = mirrored
+    passed = failed = waits = 0
     for name, test in tests.items():
         try:
             print(f"{name}: {test()}", flush=True)
+            passed += 1
         except (Trouble, OSError, subprocess.TimeoutExpired) as why:
             print(f"{name}: {why}", flush=True)
-            failed += 1
-    print(f"{len(tests) - failed} passed, {failed} failed")
+            failed, waits = failed + 1, waits + ran_out(why)
+        if waits == MOST_RAN_OUT:
+            print(NO_MORE, flush=True)
+            break
+    print(f"{passed} passed, {failed} failed")
     return 1 if failed else 0
 
 

@@ -19,12 +19,11 @@ from gikvand.words import sure
 from oracle.book_rules import Book
 from oracle.replay_rules import Replayer
 from oracle.session_rules import Judged, told
-from venues import COUNTS, PATIENCE, TRIES, VENUED, Trouble, Venue, free_port, kill_all, message, need_programs, order
-from venues import printed, replay
+from venues import COUNTS, MOST_RAN_OUT, NO_MORE, PATIENCE, TRIES, VENUED, Trouble, Venue, ended, free_port, kill_all, message
+from venues import need_programs, order, printed, ran_out, replay
 
 FRESH = journals.empty()  # As venued makes one.
 LOGON = message(1, 1, "A", "98=0|108=0|141=Y|")
-LONG = 4 * PATIENCE  # A venue tries for ten seconds to start a thread, and for longer where others keep the cores busy.
 MOST_CALLS = 10_000  # A bound for a test that goes wrong.
 EDGE = 96  # Of a sample, so many of the first calls and of the last ones are refused one by one,
 STEP = 24  # and of those between them one of so many.
@@ -77,11 +76,8 @@ class Refusal:
 
 def ran(words: list[str], data: bytes = b"", environment: dict[str, str] | None = None) -> Came:
     """Runs a program to its end: its status, and what it wrote."""
-    try:
-        it = subprocess.run(words, input=data, env=environment, capture_output=True, timeout=PATIENCE)
-    except subprocess.TimeoutExpired:
-        raise Trouble(f"expected an end came none within {PATIENCE} seconds") from None
-    return it.returncode, it.stdout, it.stderr.decode()
+    status, out, err = ended(words, data, env=environment)
+    return status, out, err.decode()
 
 
 def standard(journal: str) -> list[str]:
@@ -107,10 +103,9 @@ def sample(count: int) -> list[int]:
 
 def compiled(source: str, out: str, *more: str) -> None:
     """Compiles a file of the project with cc."""
-    words = ["cc", "-O1", "-o", out, os.path.join(ROOT, source), *more]
-    built = subprocess.run(words, capture_output=True, text=True, timeout=PATIENCE)
-    if built.returncode:
-        raise Trouble(f"cc can't compile {source}: {built.stderr.strip()}")
+    status, _, said = ran(["cc", "-O1", "-o", out, os.path.join(ROOT, source), *more])
+    if status:
+        raise Trouble(f"cc can't compile {source}: {said.strip()}")
 
 
 class Sweeps:
@@ -128,7 +123,7 @@ class Sweeps:
             refusal = Refusal(self.library, folder, group, at, how)
             try:
                 check(refusal)
-            except (Trouble, OSError) as why:
+            except (Trouble, OSError, subprocess.TimeoutExpired) as why:
                 raise Trouble(f"{group} {how}, call {at} ({refusal.came() or 'not made'}): {why}") from why
             return refusal.came()
 
@@ -239,17 +234,18 @@ def listens(refusal: Refusal, gateways: int) -> tuple[Venue | None, str, Came]:
     """A venue to which a call is refused, and its first line, if it is ready; else None, and how it ended."""
     for _ in range(TRIES):
         venue = Venue(free_port(gateways), refusal.journal, gateways, env=refusal.environment())
-        line = venue.out.next(LONG)
+        line = venue.out.next()
         if COUNTS.fullmatch(line or ""):
             return venue, line or "", (0, b"", "")
-        fault = venue.err.next(LONG) or ""
+        fault = venue.err.next() or ""
         if not fault.startswith("venued: cannot listen"):
             return None, "", (venue.process.wait(PATIENCE), (line or "").encode(), f"{fault}\n")
     raise Trouble(f"in {TRIES} tries no {gateways} ports stayed free")
 
 
 def run_tests(name: str, tests: Sequence[Callable[[Sweeps], str]], is_sample: bool = False) -> None:
-    """Runs these tests, each in a folder of its own, and prints what they came to; the status is 1 where one failed."""
+    """Runs these tests, each in a folder of its own, and prints what they came to; the status is 1 where one failed. No further test is run
+    behind the third one whose wait ran out."""
     if not shutil.which("cc"):
         print(f"{name}: cc isn't installed, which compiles tests/refusals.c: nothing was tried\n0 passed, 0 failed")
         sys.exit()
@@ -257,15 +253,20 @@ def run_tests(name: str, tests: Sequence[Callable[[Sweeps], str]], is_sample: bo
         need_programs()
     except Trouble as why:
         sys.exit(f"{name}: {why}")
-    failed = 0
+    count = failed = waits = 0
     for test in tests:
+        count += 1
         with tempfile.TemporaryDirectory(prefix="refusals-") as folder:
             try:
                 print(f"{test.__name__}: {test(Sweeps(folder, is_sample))}", flush=True)
-            except (Trouble, OSError) as why:
+            except (Trouble, OSError, subprocess.TimeoutExpired) as why:
                 print(f"{test.__name__}: {why}", flush=True)
                 failed += 1
+                waits += ran_out(why)
             finally:
                 kill_all()
-    print(f"{len(tests) - failed} passed, {failed} failed")
+        if waits == MOST_RAN_OUT:
+            print(NO_MORE, flush=True)
+            break
+    print(f"{count - failed} passed, {failed} failed")
     sys.exit(1 if failed else 0)

@@ -23,11 +23,11 @@ import concurrent.futures
 import os
 import time
 
-from refusals import FRESH, LOGON, LONG, MOST_CALLS, ROOT, Came, Refusal, Sweeps, answers, by_rules, check_history, contents, journal_of
+from refusals import FRESH, LOGON, MOST_CALLS, ROOT, Came, Refusal, Sweeps, answers, by_rules, check_history, contents, journal_of
 from refusals import kept, listens, orders, put, run_tests  # (in front of what it finds)
 from gikvand import journals
 from gikvand.fix import body
-from venues import COUNTS, REPLAY, TRIES, Client, Trouble, Venue, free_port, message, order, printed, replay
+from venues import COUNTS, LATE, PATIENCE, REPLAY, TRIES, Client, RanOut, Trouble, Venue, free_port, message, order, printed, replay
 
 ORDERS = 3
 MANY = 48  # Venues side by side that wait for threads that can't be started, which takes them ten seconds each.
@@ -156,10 +156,13 @@ def listening(sweeps: Sweeps) -> str:
 
 def connected(port: int, venue: Venue) -> Client | None:
     """A client at a port of a venue that has to listen soon, or None where it has ended."""
+    end = time.monotonic() + PATIENCE
     while venue.process.poll() is None:
         try:
             return Client(port, 1)
         except ConnectionRefusedError:
+            if time.monotonic() > end:
+                raise RanOut(f"a venue that listens, or ends: not within {PATIENCE} seconds") from None
             time.sleep(0.01)
     return None
 
@@ -191,27 +194,31 @@ def came_early(refusal: Refusal) -> bool | None:
             client.send_bytes(message(member, 1, "A", "98=0|108=0|141=Y|") + message(member, 2, "D", order(1, 1, 10, 50)))
     except OSError:
         pass  # It has ended.
-    line = venue.out.next(LONG)
+    line = venue.out.next()
     if COUNTS.fullmatch(line or ""):
         venue.kill()
         return False  # It makes fewer threads.
-    fault = venue.err.next(LONG) or ""
+    fault = venue.err.next() or ""
     if fault.startswith("venued: cannot listen"):
         for it in clients:
             it.close()
         return None
     if any(heard := [what_came(it) for it in clients]):
         raise Trouble(f"expected no client let in came {heard}")
-    came = (venue.process.wait(LONG), (line or "").encode(), f"{fault}\n")
+    came = (venue.process.wait(PATIENCE), (line or "").encode(), f"{fault}\n")
     check_no_memory("venued", came, refusal.journal, None)
     return len(clients) == 2
 
 
 def early_clients(sweeps: Sweeps) -> str:
-    """Two clients at the ports of a venue that can't start one of its threads, whichever that is."""
+    """Two clients at the ports of a venue that can't start one of its threads, whichever that is. Such a venue ends behind ten seconds. All
+    venues are tried again where this process stood still for so long, and so no client came before the end."""
     came: collections.Counter[bool] = collections.Counter()
-    sweeps.sweep(lambda it: came.update([check_early_client(it)]), "threads", "on", 12)
-    if not came[True]:
+    for _ in range(LATE):
+        sweeps.sweep(lambda it: came.update([check_early_client(it)]), "threads", "on", 12)
+        if came[True]:
+            break
+    else:
         raise Trouble("expected clients that came before the end came none")
     return f"{sweeps.said()}, {came[True]} times two clients waited"
 

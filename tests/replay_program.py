@@ -1,10 +1,9 @@
 """The built venue-replay over files in a folder of its own. Not a test: tests import it."""
 import os
-import subprocess
 
 from checks import contents, put
 from oracle.replay_rules import Outcome
-from venues import PATIENCE, REPLAY
+from venues import REPLAY, ended
 
 MEMORY = "/dev/shm"
 FOLDERS = MEMORY if os.path.isdir(MEMORY) else None  # Where tests make such folders: in memory, where there is one.
@@ -41,11 +40,8 @@ class Program:
 
     def run(self, words: list[str]) -> Outcome:
         """Runs the program with these words: how it ended, and what it wrote."""
-        try:
-            ran = subprocess.run([self.path, *words], cwd=self.folder, capture_output=True, timeout=PATIENCE)
-        except subprocess.TimeoutExpired:
-            return Outcome(-1, "", f"expected an end came none within {PATIENCE} seconds")
-        return Outcome(ran.returncode, ran.stdout.decode("latin-1"), ran.stderr.decode("latin-1"))
+        status, out, err = ended([self.path, *words], cwd=self.folder)
+        return Outcome(status, out.decode("latin-1"), err.decode("latin-1"))
 
     def files(self) -> dict[str, bytes]:
         """What stands in the folder."""

@@ -1,18 +1,27 @@
-"""Tests of conftest.py: the last line by which scripts/check counts, which tests are chosen, the folder of each, and plays as tests; and
-of the projects of links that checks.py makes."""
+"""Tests of conftest.py: the last line by which scripts/check counts, which tests are chosen, the folder of each, plays as tests, and the
+end of a run in which three waits ran out, as also scripts of tests end then; of the projects of links that checks.py makes; and of samples
+that a seed chooses, which are the same each time."""
+import argparse
+import concurrent.futures
+import functools
+import itertools
 import os
 import re
+import shutil
 import subprocess
 import sys
+from collections.abc import Callable
 
 import pytest
 
-from checks import ROOT, contents, link_there, put_text
+import refusals
+import venues
+from checks import LONG, ROOT, contents, in_order, link_there, put_text
 
 pytestmark = pytest.mark.quick
 
-PATIENCE = 120
 LAST_LINE = re.compile(r"\d+ passed, \d+ failed")
+Sample = Callable[[argparse.Namespace], tuple[object, list[venues.Trouble]]]
 MODULE = """
 import os
 import pytest
@@ -53,6 +62,43 @@ def test_it(one, other, monkeypatch):
 def test_other():
     assert "a" not in "ab"
 """
+WAITS = """
+import os
+import subprocess
+import pytest
+import venues
+
+@pytest.fixture
+def waiting():
+    raise venues.Unseen("a fixture")
+
+def test_in_a_fixture(waiting): pass
+
+def test_that_fails(): assert 1 == 2
+
+def test_that_is_skipped():
+    try:
+        raise venues.RanOut("a thing")
+    except venues.RanOut:
+        pytest.skip("not here")
+
+def test_of_a_program(): subprocess.run(["sleep", "600"], timeout=0.1)
+
+def test_behind_another():
+    try:
+        raise venues.RanOut("a line")
+    except venues.Trouble as why:
+        raise venues.Trouble("a session") from why
+
+def test_behind_three(): os.mkdir(os.environ["TRIED"])
+"""
+ALL_WAIT = """
+import pytest
+import venues
+
+@pytest.mark.parametrize("number", range(12))
+def test_that_waits(number): raise venues.RanOut("a line")
+"""
 SHELL = '#!/bin/bash\neval "$1"\n'
 
 
@@ -60,7 +106,7 @@ def tried(*words: str, **environment: str) -> tuple[int, str]:
     """How pytest ends on these words, with conftest.py: its status, and its last line."""
     command = [sys.executable, "-m", "pytest", "-q", "-p", "conftest", "-p", "no:cacheprovider", "-c", os.path.join(ROOT, "pyproject.toml"),
                "--rootdir", os.getcwd()]  # (else what conftest.py has would be for the modules beside it alone)
-    it = subprocess.run([*command, *words], stdout=subprocess.PIPE, stderr=subprocess.STDOUT, text=True, timeout=PATIENCE,
+    it = subprocess.run([*command, *words], stdout=subprocess.PIPE, stderr=subprocess.STDOUT, text=True, timeout=LONG,
                         env={**os.environ, "PYTHONPATH": os.path.join(ROOT, "tests"), **environment})
     return it.returncode, (it.stdout.splitlines() or [""])[-1]
 
@@ -96,6 +142,58 @@ def test_folders() -> None:
     os.mkdir("folders")
     assert tried(put_text("test_made.py", FOLDERS), TMPDIR=os.path.abspath("folders")) == (0, "3 passed, 0 failed")
     assert os.listdir("folders") == []
+
+
+def test_three_waits() -> None:
+    """No further test begins behind the third wait that ran out. The wait may lie behind another fault, or be for a program's end. A test
+    that is skipped hasn't failed by a wait."""
+    assert tried(put_text("test_made.py", WAITS), TRIED=os.path.abspath("tried")) == (1, "0 passed, 4 failed")
+    assert not os.path.exists("tried")
+
+
+@pytest.mark.parametrize("words", ([], ["-n", "2"], ["-p", "no:xdist"]))
+def test_three_waits_of_all(words: list[str]) -> None:
+    """The run ends at the third wait as well where several workers play the tests: the waits of all workers count together."""
+    assert tried(put_text("test_made.py", ALL_WAIT), *words) == (1, "0 passed, 3 failed")
+
+
+def late(number: int) -> Callable[..., str]:
+    """Makes the test of this number of a script: each but the second one fails by a wait that ran out."""
+    def run(*_: object) -> str:
+        if number != 2:
+            raise venues.Trouble(f"call {number}") from venues.RanOut("a line")
+        return "done"
+    run.__name__ = f"test_{number}"
+    return run
+
+
+def test_three_waits_of_scripts(capsys: pytest.CaptureFixture[str], monkeypatch: pytest.MonkeyPatch) -> None:
+    """Scripts of tests end at the third wait as well, with a last line that counts what was tried."""
+    tests = [late(number) for number in range(1, 7)]
+    assert venues.tried(tests) == 1
+    assert capsys.readouterr().out.splitlines()[-2:] == [venues.NO_MORE, "1 passed, 3 failed"]
+    for name, stands in (("need_programs", lambda: None), ("Sweeps", lambda *_: None)):
+        monkeypatch.setattr(refusals, name, stands)
+    monkeypatch.setattr(shutil, "which", lambda _: "cc")
+    with pytest.raises(SystemExit, match="^1$"):
+        refusals.run_tests("refused_memory", tests)
+    assert capsys.readouterr().out.splitlines()[-2:] == [venues.NO_MORE, "1 passed, 3 failed"]
+
+
+@pytest.mark.parametrize("together", (1, 2, 5))
+def test_calls_in_order(together: int) -> None:
+    """The results of calls come in the order of the calls, however many run side by side. Few calls begin behind the last result that is
+    taken."""
+    begun = list[int]()
+
+    def call(number: int) -> int:
+        begun.append(number)
+        return number
+    calls = (functools.partial(call, number) for number in itertools.count())
+    results = in_order(concurrent.futures.ThreadPoolExecutor(together), calls, together)
+    assert [next(results) for _ in range(7)] == list(range(7))
+    results.close()
+    assert set(range(7)) <= set(begun) <= set(range(7 + together))
 
 
 def test_projects_of_links() -> None:

@@ -13,7 +13,6 @@ its tests are skipped. All take some seconds.
 """
 import functools
 import os
-import subprocess
 import time
 from collections.abc import Callable
 from typing import NamedTuple
@@ -26,8 +25,8 @@ from oracle.book_rules import Book, Order
 from oracle.replay_rules import counts, line_of
 from oracle.session_rules import Judged, told
 from oracle.snapshot_rules import snapshot
-from refusals import LOGON, Came, Refusal, Sweeps, compiled, greatest, kept, orders, put, standard
-from venues import PATIENCE, REPLAY, Trouble, Venue, free_port, message, order
+from refusals import LOGON, Came, Refusal, Sweeps, compiled, greatest, kept, orders, put, ran, standard
+from venues import PATIENCE, REPLAY, RanOut, Trouble, Venue, free_port, message, order
 
 pytestmark = [pytest.mark.quick, pytest.mark.usefixtures("programs")]
 
@@ -96,8 +95,7 @@ class Run(NamedTuple):
         """How it ends over the journal of so many entries, where it has so much memory for itself."""
         put(journal, self.journal(count))
         words = ["sh", "-c", 'ulimit -v "$0" && exec "$@"', str(kib), *self.words(journal)]
-        it = subprocess.run(words, input=self.data(count), capture_output=True, timeout=PATIENCE)
-        return it.returncode, it.stdout, it.stderr.decode()
+        return ran(words, self.data(count))
 
     def is_enough(self, kib: int, journal: str, count: int) -> bool:
         """Whether it does then what it does with ample memory."""
@@ -170,9 +168,10 @@ def await_reading(venue: Venue) -> None:
         with open(f"/proc/{venue.process.pid}/io", encoding="ascii") as file:
             if int(file.readline().removeprefix("rchar: ")) > A_BEGINNING:
                 return
-    raise Trouble(f"venued doesn't read its journal within {PATIENCE} seconds")
+    raise RanOut(f"venued doesn't read its journal within {PATIENCE} seconds")
 
 
+@pytest.mark.soak
 def test_stop_at_the_start(sweeps: Sweeps) -> None:
     """A venue that is told to stop while it reads its journal."""
     path = os.path.join(sweeps.folder, "venue.journal")
@@ -205,6 +204,8 @@ def test_wrong_programs(sweeps: Sweeps) -> None:
         try:
             stands_in.check(sweeps)
             seen[wrong] = "passed"
+        except RanOut:
+            raise
         except Trouble as why:
             seen[wrong] = "read" if "bytes read" in str(why) else "memory"
     if seen != {"none": "passed", "keeps": "memory", "twice": "read", "most": "memory"}:

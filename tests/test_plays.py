@@ -18,25 +18,28 @@ from unittest import mock
 
 import pytest
 
-from checks import ROOT, put_text
+from checks import LONG, ROOT, put_text
 from gikvand.words import sure
+from venues import NO_MORE, RanOut, Trouble
 
 pytestmark = pytest.mark.quick
 
 PLAY = os.path.abspath(os.environ.get("PLAY", os.path.join(ROOT, "dev/play")))
 SHELL = '#!/bin/bash\n# The words of a play are what it does.\neval "$1"\n'
-PATIENCE = 120
+A_WAIT = 1  # Seconds for a play that waits in vain.
 SOON = "20250102-09:30:00"
 LOGON = f"8=FIX.4.4|9=64|35=A|49=C1|56=VENUE|34=1|52={SOON}|98=0|108=0|141=Y|10=027|"
 ANSWER = f"8=FIX.4.4|9=46|35=0|49=VENUE|56=C1|34=1|52={SOON}|10=210|"
 
 
 class Case(NamedTuple):
-    """A play of this word: its lines, and the number of the line at which it fails with this fault, or none where it passes."""
+    """A play of this word: its lines, the number of the line at which the play fails with this fault, or none where it passes, and whether
+    the fault is a wait that runs out. Such a play waits for nothing that comes."""
     word: str
     lines: list[str]
     at: int = 0
     fault: str = ""
+    waits: bool = False
 
 
 def sealed(fields: str) -> str:
@@ -93,7 +96,7 @@ CASES = [
     Case("> header", [echoes(9), "> A [35=7|] 98=0|"], 2, "not of the header: 35=7"),
     Case(">", ["> 0"], 1, "no program runs"),
     Case("+", [echoes(4), "+ hex 3131", "> hex 3232", "prints 31313232"]),
-    Case("+", ["run venued 'read -n 2 -t 2 it && echo $it'", "+ hex 3131", "prints 11"], 3, "expected 11"),
+    Case("+", ["run venued 'exec cat'", "+ hex 31310a", "prints 11"], 3, "expected 11.* came nothing", True),
     Case("<", [says(BEAT), "< 0"]),
     Case("<", [says(BEAT.replace("10=", "11=")), "< 0"], 2, "expected 8=FIX.4.4"),
     Case("<", [says(BEAT + BEAT), "< 0"], 2, "expected nothing more came 8=FIX.4.4"),
@@ -103,29 +106,35 @@ CASES = [
     Case("< ended", [says(BEAT), "< 0 112=more|"], 2, "expected 8=FIX.4.4"),
     Case("prints", ["run venued 'echo one; echo two'", "prints one", "prints two"]),
     Case("prints", ["run venued '/usr/bin/printf \"one\\ntwo\\n\"'", "prints one"], 2, "expected nothing more came two"),
+    Case("prints", ["run venued '/usr/bin/printf \"one\\ntwo\\n\"; echo ready >&2'", "prints one", "! ready", "prints two"], 2,
+         "expected nothing more came two"),
     Case("prints", ["run venued 'echo one'", "prints two"], 2, "expected two.* came one"),
     Case("prints", ["run out=full venued true", "prints two"], 2, "nobody reads this output"),
     Case("!", ["run venued 'echo fault >&2; exit 1'", "! fault", "status 1"]),
     Case("!", ["run venued 'echo fault >&2; exit 1'", "! other", "status 1"], 2, "expected other.* came fault"),
     Case("!", ["run venued '/usr/bin/printf \"fault\\nmore\\n\" >&2; exit 1'", "! fault", "status 1"], 2, "expected nothing more came more"),
     Case("!", ["run venued 'echo fault; exit 1'", "! fault", "status 1"], 2, "expected fault.* came nothing"),
-    Case("quiet", ["run venued 'sleep 600'", "quiet", "kill"]),
-    Case("quiet", ["run venued 'echo one; echo ready >&2; sleep 600'", "! ready", "quiet"], 3, "expected nothing more came one"),
-    Case("quiet", ["run venued 'echo one >&2; echo ready; sleep 600'", "prints ready", "quiet"], 3, "expected nothing more came one"),
+    Case("quiet", ["run venued 'exec sleep 600'", "quiet", "kill"]),
+    Case("quiet", ["run venued 'echo one; echo ready >&2; exec sleep 600'", "! ready", "quiet"], 3, "expected nothing more came one"),
+    Case("quiet", ["run venued 'echo one >&2; echo ready; exec sleep 600'", "prints ready", "quiet"], 3, "expected nothing more came one"),
     Case("pieces", ["run venued 'dd bs=9 count=1 2>/dev/null; echo; cat >/dev/null'", "pieces 2", "> hex 31323334", "prints 12"]),
     Case("pieces", ["run venued 'dd bs=9 count=1 2>/dev/null; echo; cat >/dev/null'", "> hex 31323334", "prints 12"], 3,
          "expected 12.* came 1234"),
+    Case("pieces", ["run venued 'exec sleep 600'", "pieces 2", "> hex 31323334"], 3, "expected that the program reads each piece", True),
     Case("pieces 0", ["run venued 'dd bs=9 count=1 2>/dev/null; echo; cat >/dev/null'", "pieces 2", "pieces 0", "> hex 31323334",
                       "prints 1234"]),
     Case("close", ["run venued 'cat >/dev/null; echo end'", "close", "prints end"]),
-    Case("close", ["run venued 'cat >/dev/null; echo end'", "quiet", "prints end"], 3, "expected end"),
-    Case("kill", ["run venued 'sleep 600'", "kill", "run venued true"]),
+    Case("close", ["run venued 'cat >/dev/null; echo end'", "prints end"], 2, "expected end.* came nothing", True),
+    Case("kill", ["run venued 'exec sleep 600'", "kill", "run venued true"]),
     Case("kill", ["run venued 'echo $$ >own; echo end; exit 3'", "prints end", f"@other run venue-replay '{HAS_ENDED}; echo so'",
                   "@other prints so", "kill"], 5, "expected status 137 came status 3"),
     Case("status", ["run venued 'exit 3'", "status 3"]),
     Case("status", ["run venued 'exit 3'", "status 1"], 2, "expected status 1 came status 3"),
     Case("status", ["run venued 'kill -KILL $$'", "status 137"]),
     Case("status", ["run venued 'kill -KILL $$'", "status 0"], 2, "expected status 0 came status 137"),
+    Case("status", ["run venued 'exec sleep 600'", "status 0"], 2, "expected status 0 came no end", True),
+    Case("status", ["write held 31", "run venued 'while [ -e held ]; do sleep 0.1; done & exit 3'", "status 3"], 3,
+         "expected (that the output ends with its program|status 3 came no end)", True),  # (which of both is the machine's doing)
     Case("status", ["run venued 'echo more; exit 3'", "status 3"], 2, "expected nothing more came more"),
     Case("status", ["run venued 'echo more >&2; exit 3'", "status 3"], 2, "expected nothing more came more"),
     Case("@", ["run venued 'echo one; cat'", "@other run venue-replay 'echo two; exit 2'", "prints one", "@other prints two",
@@ -168,7 +177,7 @@ CASES = [
     Case("file as", ["write one 31", "write two 32", "file one as two"], 3, "expected one 32 came 31"),
     Case("file as", ["write one 31", "file one as two"], 2, "expected one no file came 31"),
     Case("repeat", ["run venued 'cat'", "repeat 3", "> hex 3{i} 0a", "prints {i}", "end", "close"]),
-    Case("repeat", ["run venued 'printf \"1\\n2\\n\"; cat'", "repeat 3", "prints {i}", "end"], 3, "expected 3"),
+    Case("repeat", ["run venued 'printf \"1\\n2\\n\"'", "repeat 3", "prints {i}", "end"], 3, "expected 3.* came nothing"),
     Case("repeat", ["run venued 'printf \"3\\n6\\n\"'", "repeat 2", "prints {3*i}", "end"]),
     Case("repeat", ["run venued 'printf \"3\\n7\\n\"'", "repeat 2", "prints {3*i}", "end"], 3, "expected 6.* came 7"),
     Case("repeat", ["repeat 2", "write one 31"], 1, "repeat without end"),
@@ -177,16 +186,19 @@ CASES = [
     Case("other", ["# a comment", "", "  # another"])]
 
 
+def put_case(case: Case) -> dict[str, str]:
+    """Makes the play of a case, and its programs, and returns the paths of the programs."""
+    put_text("case.play", "".join(f"{line}\n" for line in case.lines))
+    return {name: put_text(name, SHELL, 0o755) for name in ("venued", "venue-replay")}
+
+
 @pytest.mark.parametrize("case", CASES, ids=[f"{it.word}-{number}" for number, it in enumerate(CASES)])
 def test_word(case: Case) -> None:
     """A play with this word passes, or fails at its line with its fault."""
-    for name in ("venued", "venue-replay"):
-        put_text(name, SHELL, 0o755)
-    put_text("case.play", "".join(f"{it}\n" for it in case.lines))
-    programs = [f"--{it}={os.path.abspath(it)}" for it in ("venued", "venue-replay")]
-    patience = "10" if case.fault else "30"  # (some of them wait in vain)
-    it = subprocess.run([sys.executable, PLAY, "case.play", *programs], capture_output=True, text=True, timeout=PATIENCE,
-                        env={**os.environ, "VENUE_PATIENCE": patience})
+    programs = [f"--{name}={path}" for name, path in put_case(case).items()]
+    patience = {"VENUE_PATIENCE": str(A_WAIT)} if case.waits else {}
+    it = subprocess.run([sys.executable, PLAY, "case.play", *programs], capture_output=True, text=True, timeout=LONG,
+                        env={**os.environ, "PYTHONPATH": os.path.join(ROOT, "dev"), **patience})  # (where another dev/play finds modules)
     said = it.stdout.replace("\n", " ")
     wanted = rf"case\.play:{case.at}: {case.fault}.*0 passed, 1 failed " if case.fault else r"1 passed, 0 failed "
     assert (it.returncode, it.stderr) == (int(bool(case.fault)), "")
@@ -202,21 +214,53 @@ def module() -> types.ModuleType:
     return it
 
 
-def test_all_plays() -> None:
-    """dev/play without a name plays each file of tests, and counts those that fail."""
-    it, seen = module(), list[str]()
+def played_all(faults: dict[int, Trouble]) -> tuple[list[str], int | str | None, list[str]]:
+    """Lets dev/play play without a name, where the plays of these numbers fail so, and returns the played files, the status, and the printed
+    lines."""
+    play, seen = module(), list[str]()
 
-    def played(file: str, _: object) -> str | None:
+    def played(file: str, _: object) -> Trouble | None:
         seen.append(file)
-        return "a fault" if len(seen) == 3 else None
+        return faults.get(len(seen))
     words = ["play", "--venued", "/bin/true", "--venue-replay", "/bin/true"]
-    with mock.patch.multiple(it, play=played, ROOT=ROOT), \
+    with mock.patch.multiple(play, play=played, ROOT=ROOT), \
             mock.patch.object(sys, "argv", words), redirect_stdout(io.StringIO()) as out:
         with pytest.raises(SystemExit) as ended:
-            it.main()
+            play.main()
+    return seen, ended.value.code, out.getvalue().splitlines()
+
+
+def test_all_plays() -> None:
+    """dev/play without a name plays each file of tests, and counts those that fail."""
     files = sorted(glob.glob(os.path.join(ROOT, "tests/*.play")))
     assert files
-    assert (sorted(seen), ended.value.code, out.getvalue().splitlines()[-1]) == (files, 1, f"{len(files) - 1} passed, 1 failed")
+    assert played_all({3: Trouble("a fault")}) == (files, 1, ["a fault", f"{len(files) - 1} passed, 1 failed"])
+
+
+def test_three_waits() -> None:
+    """No further play is played behind the third one whose wait ran out. A play that fails in another way doesn't count there."""
+    seen, status, said = played_all({1: RanOut("1"), 2: Trouble("2"), 4: RanOut("4"), 6: RanOut("6"), 7: RanOut("7")})
+    assert (len(seen), status, said) == (6, 1, ["1", "2", "4", "6", NO_MORE, "2 passed, 4 failed"])
+
+
+@pytest.mark.parametrize("case", [case for case in CASES if case.waits or case.word == "prints" and case.fault], ids=lambda case: case.word)
+def test_waits_that_run_out(case: Case, monkeypatch: pytest.MonkeyPatch) -> None:
+    """A play tells a wait that ran out from any other fault."""
+    play, programs = module(), put_case(case)
+    if case.waits:
+        monkeypatch.setattr(play, "PATIENCE", A_WAIT)
+    assert type(play.play("case.play", programs)) is (RanOut if case.waits else Trouble)
+
+
+def test_bytes_that_wait_in_the_pipe() -> None:
+    """Bytes that a program has written count as more also where the thread that reads them had no turn yet."""
+    play, (reader, writer) = module(), os.pipe()
+    with mock.patch.object(play.Stream, "read", lambda _: None), open(reader, "rb", buffering=0) as source, open(writer, "wb", buffering=0) as pipe:
+        stream = play.Stream(source)
+        stream.nothing_more()
+        pipe.write(b"x")
+        with pytest.raises(play.Failed, match="^expected nothing more came x$"):
+            stream.nothing_more()
 
 
 def words_of_a_play() -> set[str]:

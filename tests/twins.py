@@ -21,7 +21,6 @@ import os
 import random
 import re
 import shutil
-import subprocess
 import sys
 import tempfile
 import threading
@@ -39,11 +38,10 @@ from corners import SYMBOLS
 from gikvand import journals
 from measuring import FIGURE, PROJECT, TWIN
 from mixed_day import write_journal
-from venues import REPLAY, TIME, VENUED, Client, Trouble, chosen_of, kill_all, market_order, message, need_programs, order
-from venues import replay, started, tried
+from venues import PATIENCE, REPLAY, TIME, VENUED, Client, RanOut, Trouble, chosen_of, ended, kill_all, market_order, message
+from venues import need_programs, order, replay, started, tried
 
 BENCH = os.environ.get("BENCH", os.path.join(ROOT, "crates/bench/out/bench"))
-LONG = 120                # Seconds for a program.
 EACH = 9                  # Of the corners, one of so many is tried.
 MESSAGES = 600            # Of the session by chance.
 MEMBERS, ORDERS = 3, 150  # Who trade over TCP, and how many orders of each.
@@ -52,19 +50,14 @@ SAID = re.compile(r"8=FIX\.4\.4\|9=\d+\|(35=.\|)49=VENUE\|56=C\d\|34=(\d+)\|(52=
 Program = Callable[[str], str]  # From a twin's name to the program.
 
 
-def ran(words: list[str], data: bytes = b"") -> tuple[int, bytes, bytes]:
-    it = subprocess.run(words, input=data, capture_output=True, timeout=LONG)
-    return it.returncode, it.stdout, it.stderr
-
-
 def expect_same(what: str, twin: object, project: object) -> None:
     if twin != project:
         raise Trouble(f"{what}: the program has {str(project)[-300:]}, the twin {str(twin)[-300:]}")
 
 
 def fix(program: Program) -> None:
-    status, _, told = ran([BENCH, "fix", "1003"])
-    expect_same("what was read and written", ran([program("fix"), "1003"])[::2], (status, told))
+    status, _, told = ended([BENCH, "fix", "1003"])
+    expect_same("what was read and written", ended([program("fix"), "1003"])[::2], (status, told))
 
 
 def by_chance(chance: random.Random) -> bytes:
@@ -93,7 +86,7 @@ def served(program: str, data: bytes, kept: bytes | None) -> tuple[int, bytes, b
         path = os.path.join(folder, "venue.journal")
         if kept is not None:
             put(path, kept)
-        status, out, _ = ran([program, "-", path, "1", *SYMBOLS], data)
+        status, out, _ = ended([program, "-", path, "1", *SYMBOLS], data)
         return status, out, contents(path)
 
 
@@ -119,7 +112,7 @@ def restart(program: Program) -> None:
                 file.seek(-1, os.SEEK_END)
                 file.write(journals.block_of(version, entries) + journals.CLOSED)
             words = [path, "book", "ABC"]
-            expect_same(f"version {version}", ran([program("restart"), *words])[:2], ran([REPLAY, *words])[:2])
+            expect_same(f"version {version}", ended([program("restart"), *words])[:2], ended([REPLAY, *words])[:2])
 
 
 class Trading(threading.Thread):
@@ -173,7 +166,9 @@ def tcp(program: Program) -> None:
         for it in trading:
             it.start()
         for it in trading:
-            it.join(LONG)
+            it.join(PATIENCE)
+            if it.is_alive():
+                raise RanOut(f"C{it.client.member} trades yet behind {PATIENCE} seconds")
         for it in trading:
             it.hear_rest()
         counts = venue.stop()
@@ -239,7 +234,9 @@ def wrong(_program: Program) -> None:
             programs(it.test.__name__)
             try:
                 it.test(programs)
-            except (Trouble, subprocess.TimeoutExpired):
+            except RanOut:
+                raise
+            except Trouble:
                 continue
             finally:
                 kill_all()
@@ -247,7 +244,7 @@ def wrong(_program: Program) -> None:
 
 
 def bench(_program: Program) -> None:
-    status, out, err = ran([os.path.join(ROOT, "dev/bench"), "--try"])
+    status, out, err = ended([os.path.join(ROOT, "dev/bench"), "--try"])
     names = [found[1] for line in out.decode().splitlines() if (found := FIGURE.fullmatch(line))]
     twins = {name for name in names if TWIN in name}
     without = [name for name in names if PROJECT in name and name.replace(PROJECT, TWIN) not in twins]

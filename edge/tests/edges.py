@@ -22,7 +22,7 @@ sys.path.insert(0, os.path.join(ROOT, "dev"))
 
 import with_scripts  # (in front of what stands there, and of what an older Python can't read)
 from gikvand.words import sure
-from venues import EVENTS, PATIENCE, Test, Trouble, Venue, await_that, free_port, in_some_try, kill_all, replay, running, started
+from venues import EVENTS, PATIENCE, RanOut, Test, Trouble, Venue, await_that, free_port, in_some_try, kill_all, replay, running, started
 from venues import HOST, Client  # (for those that import this module)
 from venues import order as venue_order  # (in the venue's own profile)
 
@@ -111,17 +111,16 @@ class Edge:
     def hears(self, text: str, seconds: float = PATIENCE, or_counts: str | None = None) -> str:
         """Waits for a line with this text in it, and gives it; or for one that counts lines that begin so, which the edge
         says where there are too many of them in a second."""
-        end = time.monotonic() + seconds
-        while (left := end - time.monotonic()) > 0:
+        end, has_ended = time.monotonic() + seconds, False
+        while not has_ended and (left := end - time.monotonic()) > 0:
             try:
                 line = self.queue.get(timeout=left)
             except queue.Empty:
                 break
-            if line is None:
-                break
-            if text in line or or_counts and f"lines like this one: {or_counts}" in line:
+            has_ended = line is None
+            if line is not None and (text in line or or_counts and f"lines like this one: {or_counts}" in line):
                 return line
-        raise Trouble(f"no line of the edge has {text!r}; it said {self.lines[-12:]}")
+        raise (Trouble if has_ended else RanOut)(f"no line of the edge has {text!r}; it said {self.lines[-12:]}")
 
     def ready(self: E, members: int = 1) -> E:
         """Waits until all processes listen, and so many members are served, in any order. What a member that is served says while

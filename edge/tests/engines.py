@@ -4,7 +4,7 @@ import socket
 import time
 from typing import TypeVar
 
-from edges import HOST, NAMES, PATIENCE, Trouble
+from edges import HOST, NAMES, PATIENCE, RanOut, Trouble
 from gikvand.fix import framed, parted, value
 from gikvand.words import sure
 
@@ -74,7 +74,7 @@ class Engine:
         """Connects and logs on; Trouble with what came in its place."""
         self.connect().send("A", f"98=0|108={self.heartbeat}|{more}")
         if not (came := self.next_of("A53")):
-            raise Trouble(f"{self.sender}: the Logon wasn't answered")
+            raise (RanOut if self.socket else Trouble)(f"{self.sender}: the Logon wasn't answered")
         if value(came, "35") != "A":
             raise Trouble(f"{self.sender}: the Logon was answered by {came}")
         return self
@@ -208,7 +208,7 @@ class Engine:
                     return it
             if not self.pump(end - time.monotonic()):
                 break
-        raise Trouble(f"{self.sender}: no report of {wanted}; there were {self.reports[-4:]}, {self.admin[-2:]}")
+        raise (RanOut if self.socket else Trouble)(f"{self.sender}: no report of {wanted}; there were {self.reports[-4:]}, {self.admin[-2:]}")
 
 
 def at_once(one: Engine, *messages: tuple[str, str]) -> None:

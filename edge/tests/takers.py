@@ -4,7 +4,7 @@ import time
 from collections.abc import Callable, Sequence
 from typing import Any, TypeVar
 
-from edges import EVENTS, JOURNAL, PATIENCE, SYMBOLS, Trouble, replay
+from edges import EVENTS, JOURNAL, PATIENCE, SYMBOLS, RanOut, Trouble, replay
 from engines import Engine
 from gikvand.fix import value
 from gikvand.words import sure
@@ -59,7 +59,7 @@ def picked(one: Engine, **wanted: int | str) -> str:
                 return one.reports.pop(at)
         if not one.pump(end - time.monotonic()):
             break
-    raise Trouble(f"{one.sender}: no message of {wanted}; there were {one.reports[-4:]}, {one.admin[-2:]}")
+    raise (RanOut if one.socket else Trouble)(f"{one.sender}: no message of {wanted}; there were {one.reports[-4:]}, {one.admin[-2:]}")
 
 
 class Taker:
@@ -130,7 +130,7 @@ class Taker:
             if holds():
                 return self
             if time.monotonic() > end:
-                raise Trouble(f"{self.engine.sender}: {what} doesn't come: {self.books} {self.trades}"[:SHOWN])
+                raise RanOut(f"{self.engine.sender}: {what} doesn't come: {self.books} {self.trades}"[:SHOWN])
             self.engine.pump(0.05)
 
     def has(self: K, journal: str = JOURNAL, depth: int = 0) -> K:

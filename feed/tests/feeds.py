@@ -26,7 +26,7 @@ from gikvand import nats
 from gikvand.fix import value
 from gikvand.words import sure
 from networks import Host
-from venues import EVENTS, HOST, PATIENCE, TIME, Client, Late, Trouble, free_port, message, order, running, started
+from venues import EVENTS, HOST, PATIENCE, TIME, Client, Late, RanOut, Trouble, free_port, message, order, running, started
 from venues import Venue, kill_all  # (for those that import this module)
 
 FEED = os.path.abspath(os.environ.get("GIKVAND_FEED", os.path.join(ROOT, "feed/out/gikvand-feed")))
@@ -40,6 +40,7 @@ ESTABLISHED = "01"       # A connection, in /proc/net/tcp.
 POLL = "7"               # The call of the system in which a thread waits for whatever comes.
 NO_STREAM = 10059        # What the servers say of a stream that isn't there.
 PATIENT = 3 * PATIENCE   # Seconds for servers that come back: they take half a minute on a machine with other work.
+SOON = 30                # Seconds for what may never come, where a slow machine let something else come first.
 IS_LONG = "FEED_LONG" in os.environ
 NAMES = [f"day{it}" for it in range(80)]  # Of the feeds of all tests, one behind the other, some of which are tried again.
 
@@ -501,14 +502,14 @@ def wait_for(what: str, holds: Callable[[], object], seconds: float = PATIENT) -
         except nats.Unheard as unheard:
             why = f": {unheard}"
         if time.monotonic() > end:
-            raise Trouble(f"{what}: not within {seconds} seconds{why}")
+            raise RanOut(f"{what}: not within {seconds} seconds{why}")
         time.sleep(0.1)
 
 
 def wait_soon(what: str, holds: Callable[[], object]) -> None:
     """Waits until something holds that holds soon, unless a slow machine lets something else come first: then that was too late."""
     try:
-        wait_for(what, holds, PATIENCE)
+        wait_for(what, holds, SOON)
     except Trouble as why:
         raise Late(str(why)) from None
 

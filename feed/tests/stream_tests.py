@@ -18,6 +18,7 @@ ROUNDS = 2          # so many rounds of trade take more,
 TRADED = 500        # each of so many pairs,
 BOUND = 1 << 20     # and more than these, to which a server is bound.
 OUTAGE = 8          # Seconds of an outage in which nothing is said, once each reason was.
+ALONE = 90          # Seconds in which two servers go on without the third, where they can.
 
 
 def test_streams() -> None:
@@ -86,7 +87,7 @@ def go_on_alone(name: str) -> bool:
     """Whether two servers go on without the third. One that was killed before, and doesn't have all again yet, may need the third for
     that: NATS doesn't let it catch up by each one alone, so docs/FEED.md lets nobody end a server before that."""
     try:
-        wait_for("events of two servers", lambda: has("machines", name, "events", len(lines_of())))
+        wait_for("events of two servers", lambda: has("machines", name, "events", len(lines_of())), ALONE)
     except Trouble:
         return False
     return True
