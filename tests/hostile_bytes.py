@@ -1,16 +1,18 @@
 #!/usr/bin/env python3
 """Feeds bytes of all kinds to `venued -`, and compares what comes out with the rules of docs/PROFILE.md in plain Python.
 
-    tests/hostile_bytes.py                              the sample that the full check takes, half a minute
+    tests/hostile_bytes.py                              the sample that the full check takes, the same each time, half a minute
     tests/hostile_bytes.py NAME...                      of the tests below, those whose names have one of these words in them
     tests/hostile_bytes.py --messages 1000000           as many mutated messages, however long that takes
     tests/hostile_bytes.py --messages N --seconds S     the same, for so long at most
-    tests/hostile_bytes.py --seed N                     the same messages again
+    tests/hostile_bytes.py --seed N                     other mutated messages; --new-seed, by a seed that is drawn, and told
+    tests/hostile_bytes.py --rules-alone                runs no program, and tells which rules the mutated messages meet
 
 Four tests. `rules_corners`: the sessions of tests/corners.py, what just fits and what just doesn't, which reach each rule;
 where one is reached by none of them the test fails. `cuts`: the bytes of the first order in two pieces, cut at each place,
 are answered as in one. `replaced_bytes`: each of them is replaced by 00 and by other values. `mutated_sessions`: sessions
-of up to a hundred messages, right ones and wrong ones, many on one journal, so that later ones find a book. A tenth of the
+of up to a hundred messages, right ones and wrong ones, many on one journal, so that later ones find a book. A seed chooses the
+sessions, which are the same however many programs run side by side; 50,000 messages have to meet each rule. A tenth of the
 messages are market orders, or were before they were changed; the journals are of all versions by turns, and on those of
 version 1 the venue refuses these. tests/oracle says which bytes may come out: the venue's own answers in their
 order, the reports in theirs, numbered together, nothing behind a Logout; where a Logout ended the session, reports that were due may be missing
@@ -18,8 +20,8 @@ at the end. Behind every journal venue-replay has to print each report that the 
 the version that it had. That all this tells a wrong answer and a wrong rule is shown by tests/known_bad.py.
 
 What differs is shown with its input as a line of hex digits. The last line is `N passed, M failed`, and the status is 1
-where one failed. Build both programs first, by scripts/build; others are taken by the environment's VENUED and
-VENUE_REPLAY.
+where one failed. Nothing more is tried behind the third wait that ran out. Build both programs first, by scripts/build; others
+are taken by the environment's VENUED and VENUE_REPLAY.
 """
 import argparse
 import collections
@@ -36,14 +38,15 @@ import sys
 import tempfile
 import termios
 import time
-from collections.abc import Callable
+from collections.abc import Callable, Iterator
+from typing import NamedTuple
 
 ROOT = os.path.dirname(os.path.dirname(os.path.abspath(__file__)))
 sys.path.insert(0, os.path.join(ROOT, "dev"))
 
 import with_scripts  # (in front of what stands there, and of what an older Python can't read)
 import corners
-from checks import put
+from checks import in_order, put
 from corners import SYMBOLS, Corner, all_corners
 from gikvand import journals
 from gikvand.fix import sealed
@@ -52,11 +55,16 @@ from oracle.book_rules import Book
 from oracle.order_rules import asks_for_market
 from oracle.replay_rules import line_of
 from oracle.session_rules import Judged, Session
-from venues import PATIENCE, REPLAY, TIME, VENUED, Trouble, message, need_programs, order, printed
+from venues import MOST_RAN_OUT, NO_MORE, PATIENCE, REPLAY, TIME, VENUED, RanOut, Trouble, ended, message, need_programs, order, printed
+from venues import ran_out
 
 FIRST = message(1, 1, "A", "98=0|108=0|141=Y|") + message(1, 2, "D", order(1, 1, 100, 50))
 OTHERS = b"\x00\x01\x30\x7f\x80\xff"
-SESSIONS = 16      # Sessions of one journal.
+SEED = "1"           # Of the sample's mutated messages. Where they come to lack a rule, --rules-alone --new-seed finds another seed.
+SAMPLE = 60_000      # How many these are at least.
+ALL_MET = 50_000     # So many messages have to meet each rule.
+MOST_DIFFER = 3      # Batches that may differ: behind the last of them no further one is tried.
+SESSIONS = 16        # Sessions of one journal.
 CUTS = {it: journals.begun(journals.empty(it)).cut for it in journals.VERSIONS}
 WITHOUT_PRICE = r"\|38=\d+\|(?:32|151)="  # In a report: behind the quantity comes what stands behind a Price.
 WANTED = [*(f"58={it}" for it in ("bad begin", "bad length", "bad checksum", "too long", "bad field", "bad header",
@@ -107,17 +115,17 @@ def ran(journal: str, data: bytes, judged: Judged) -> str | None:
     """Plays a session to its end: how it differs from the rules, or None."""
     process = subprocess.Popen([VENUED, "-", journal, "1", *SYMBOLS], stdin=subprocess.PIPE, stdout=subprocess.PIPE,
                                stderr=subprocess.PIPE)
-    return ended(process, data, judged)
+    return at_its_end(process, data, judged)
 
 
-def ended(process: subprocess.Popen, data: bytes | None, judged: Judged) -> str | None:
+def at_its_end(process: subprocess.Popen, data: bytes | None, judged: Judged) -> str | None:
     """Waits for the end of a run that gets this: how it differs from the rules, or None."""
     try:
         out, err = process.communicate(data, PATIENCE)
     except subprocess.TimeoutExpired:
         process.kill()
         process.communicate()
-        return f"expected an end came none within {PATIENCE} seconds"
+        raise RanOut(f"expected an end came none within {PATIENCE} seconds") from None
     return check_end(process, out, err, judged)
 
 
@@ -131,16 +139,33 @@ def in_pieces(journal: str, pieces: tuple[bytes, ...], judged: Judged) -> str | 
         while struct.unpack("i", fcntl.ioctl(given, termios.FIONREAD, b"\0" * 4))[0] and process.poll() is None:
             if time.monotonic() > end:
                 process.kill()
+                process.communicate()
+                raise RanOut(f"expected that a piece is read came one that wasn't within {PATIENCE} seconds")
             time.sleep(0.0002)
-    return ended(process, None, judged)
+    return at_its_end(process, None, judged)
 
 
-def tried(cases: list[tuple[str, Case]], together: int) -> tuple[int, list[str]]:
-    """Runs these, each a name and what runs it on a journal, so many at a time: how many ran, and what differed."""
+def fault_of(what: str, run: Callable[[], str | None]) -> Trouble | None:
+    """Runs a case, and returns how the case differs from the rules, as a RanOut where a wait ran out, or None."""
+    try:
+        why = run()
+    except RanOut as late:
+        return RanOut(f"{what}: {late}")
+    return Trouble(f"{what}: {why}") if why else None
+
+
+def tried(cases: list[tuple[str, Case]], together: int) -> tuple[int, list[Trouble]]:
+    """Runs these cases, each with its name, so many at a time, and returns how many ran, and what differed. No further case is run behind
+    the third wait that ran out."""
+    count, faults = 0, list[Trouble]()
     with tempfile.TemporaryDirectory(prefix="hostile-bytes-") as folder:
-        with concurrent.futures.ThreadPoolExecutor(together) as pool:
-            runs = [(name, pool.submit(case, os.path.join(folder, f"{at}.journal"))) for at, (name, case) in enumerate(cases)]
-            return len(runs), [f"{name}: {why}" for name, run in runs if (why := run.result())]
+        calls = (functools.partial(fault_of, name, functools.partial(case, os.path.join(folder, f"{at}.journal")))
+                 for at, (name, case) in enumerate(cases))
+        for fault in in_order(concurrent.futures.ThreadPoolExecutor(together), calls, together):
+            count, faults = count + 1, faults + ([fault] if fault else [])
+            if sum(map(ran_out, faults)) == MOST_RAN_OUT:
+                break
+    return count, faults
 
 
 def shown_in(judged: Judged, is_old: bool) -> list[str]:
@@ -164,16 +189,16 @@ def corner(it: Corner, journal: str) -> str | None:
     return None
 
 
-def rules_corners(together: int) -> tuple[int, list[str]]:
+def rules_corners(together: int) -> tuple[int, list[Trouble]]:
     """What just fits, and what just doesn't. All rules have to be met."""
     chosen = all_corners()
     met = {name for it in chosen
            for name in shown_in(Judged(it.data, corners.book_of(it.journal)), it.journal == corners.OLD)}
     count, faults = tried([(it.name, functools.partial(corner, it)) for it in chosen], together)
-    return count, faults + [f"no session met {it}" for it in SHOWN if it not in met]
+    return count, faults + [Trouble(f"no session met {it}") for it in SHOWN if it not in met]
 
 
-def cuts(together: int) -> tuple[int, list[str]]:
+def cuts(together: int) -> tuple[int, list[Trouble]]:
     """Each cut of the first order's bytes into two pieces."""
 
     def case(at: int) -> Case:
@@ -182,7 +207,7 @@ def cuts(together: int) -> tuple[int, list[str]]:
     return tried([(f"cut behind byte {at}", case(at)) for at in range(1, len(FIRST))], together)
 
 
-def replaced_bytes(together: int) -> tuple[int, list[str]]:
+def replaced_bytes(together: int) -> tuple[int, list[Trouble]]:
     """Each byte of the first order replaced by others."""
 
     def case(data: bytes) -> Case:
@@ -343,9 +368,9 @@ class Writer:
 
 def kept(journal: str, what: str = "C1") -> list[str]:
     """What venue-replay prints of the book, or of a member. Where it fails, that."""
-    it = subprocess.run([REPLAY, journal, what, *SYMBOLS], capture_output=True, timeout=PATIENCE)
-    failed = [f"status {it.returncode}"] if it.returncode or it.stderr else []
-    return (it.stdout + it.stderr).decode("latin-1").splitlines() + failed
+    status, out, err = ended([REPLAY, journal, what, *SYMBOLS])
+    failed = [f"status {status}"] if status or err else []
+    return (out + err).decode("latin-1").splitlines() + failed
 
 
 def begun(journal: str, version: int) -> None:
@@ -373,76 +398,122 @@ def check_kept(journal: str, version: int, lines: list[str]) -> str | None:
     return None
 
 
-def batch(number: int, seed: str, journal: str) -> tuple[int, collections.Counter[str], str | None]:
-    """Sessions on one journal: how many messages, what they met, and what differed."""
+class Batch(NamedTuple):
+    """Sessions for one journal of this version: the bytes of each, and how many messages all of them have."""
+    number: int
+    version: int
+    sessions: list[bytes]
+    messages: int
+
+
+def written(seed: str, number: int) -> Batch:
+    """Writes the batch of this number."""
+    writer = Writer(random.Random(f"{seed} {number}"))
+    sessions = [writer.session() for _ in range(SESSIONS)]
     version = journals.VERSIONS[number % len(journals.VERSIONS)]
-    writer, book = Writer(random.Random(f"{seed} {number}")), Book(SYMBOLS, CUTS[version])
-    met: collections.Counter[str] = collections.Counter()
-    messages, lines = 0, []
-    begun(journal, version)
-    for at in range(SESSIONS):
-        data, count = writer.session()
-        judged = Judged(data, book)
-        if why := ran(journal, data, judged):
-            return messages, met, f"batch {number}, version {version}, session {at}: {why}; its bytes: {data.hex()}"
-        messages += count
-        met.update(shown_in(judged, version == 1))
-        met[ASKED] += sum(asks_for_market(kind, found) for _, kind, _, found in judged.session.orders)
-        lines += judged.lines()
-    lines.append(f"commands {book.commands} outputs {book.outputs}")
-    if why := check_kept(journal, version, lines):
-        return messages, met, f"batch {number}, version {version}: {why}"
-    return messages, met, None
+    return Batch(number, version, [data for data, _ in sessions], sum(count for _, count in sessions))
 
 
-def mutated_sessions(messages: int, seconds: float, seed: str, together: int) -> tuple[int, list[str]]:
-    """Batches of sessions until there were so many messages, or the time is over."""
-    print(f"mutated_sessions: seed {seed}", flush=True)
-    end, total, batches = time.monotonic() + seconds, 0, 0
-    met: collections.Counter[str] = collections.Counter()
-    faults: list[str] = []
+def batches(seed: str, messages: int) -> Iterator[Batch]:
+    """Writes batches from the first one on, until the batches have so many messages."""
+    numbers = itertools.count()
+    while messages > 0:
+        batch = written(seed, next(numbers))
+        yield batch
+        messages -= batch.messages
+
+
+class Played(NamedTuple):
+    """How many messages a batch has, which rules the batch met, and how a program differs from the rules, or None."""
+    messages: int
+    met: collections.Counter[str]
+    fault: Trouble | None
+
+
+def played(batch: Batch, run: Callable[[str, bytes, Judged], str | None] | None) -> Played:
+    """Plays the sessions of a batch, one behind the other on one journal. Without `run` no program is run, and the rules alone say which of
+    them are met."""
+    book, met, lines, fault = Book(SYMBOLS, CUTS[batch.version]), collections.Counter[str](), list[str](), None
+    what = f"batch {batch.number}, version {batch.version}"
     with tempfile.TemporaryDirectory(prefix="hostile-bytes-") as folder:
-        with concurrent.futures.ThreadPoolExecutor(together) as pool:
-            while total < messages and time.monotonic() < end and len(faults) < 3:
-                names = range(batches, batches + together)
-                for count, some, why in pool.map(lambda it: batch(it, seed, os.path.join(folder, f"{it}.journal")), names):
-                    total, batches, met = total + count, batches + 1, met + some
-                    faults += [why] if why else []
-                for name in os.listdir(folder):
-                    os.remove(os.path.join(folder, name))
+        journal = os.path.join(folder, "venue.journal")
+        begun(journal, batch.version)
+        for at, data in enumerate(batch.sessions):
+            judged = Judged(data, book)
+            met.update(shown_in(judged, batch.version == 1))
+            met[ASKED] += sum(asks_for_market(kind, found) for _, kind, _, found in judged.session.orders)
+            lines += judged.lines()
+            if run and not fault and (why := fault_of(f"{what}, session {at}", functools.partial(run, journal, data, judged))):
+                fault = type(why)(f"{why}; its bytes: {data.hex()}")
+        lines.append(f"commands {book.commands} outputs {book.outputs}")
+        if run and not fault:
+            fault = fault_of(what, lambda: check_kept(journal, batch.version, lines))
+    return Played(batch.messages, met, fault)
+
+
+def mutated_sessions(given: argparse.Namespace) -> tuple[int, list[Trouble]]:
+    """Plays batches of sessions until there were so many messages, or the time is over."""
+    print(f"mutated_sessions: seed {given.seed}", flush=True)
+    end = time.monotonic() + (given.seconds or float("inf"))
+    chosen = itertools.takewhile(lambda _: time.monotonic() < end, batches(given.seed, given.messages))
+    calls = (functools.partial(played, batch, None if given.rules_alone else ran) for batch in chosen)
+    total, count, met, faults = 0, 0, collections.Counter[str](), list[Trouble]()
+    for batch in in_order(concurrent.futures.ThreadPoolExecutor(given.together), calls, given.together):
+        total, count, met = total + batch.messages, count + 1, met + batch.met
+        faults += [batch.fault] if batch.fault else []
+        if len(faults) == MOST_DIFFER:
+            break
     print("    " + ", ".join(f"{it}: {met[it]}" for it in WANTED))
     print("    " + ", ".join(f"{it}: {met[it]}" for it in [ASKED, *MARKET, *OLD]))
-    faults += [f"no session met {it}" for it in SHOWN if not met[it] and it not in BY_CORNERS and total > 50_000]
-    print(f"    {batches * SESSIONS} sessions on {batches} journals")
+    if total >= ALL_MET:
+        faults += [Trouble(f"no session met {it}") for it in SHOWN if not met[it] and it not in BY_CORNERS]
+    print(f"    {count * SESSIONS} sessions on {count} journals")
     return total, faults
 
 
-def main() -> None:
+def read_words() -> argparse.Namespace:
     parser = argparse.ArgumentParser(description=__doc__, formatter_class=argparse.RawDescriptionHelpFormatter)
     parser.add_argument("names", nargs="*", metavar="NAME", help="which tests; all, if left out")
-    parser.add_argument("--messages", type=positive, help="mutated messages; 100,000, if left out")
-    parser.add_argument("--seconds", type=positive, help="how long they may take; 15, or any time with --messages")
+    parser.add_argument("--messages", type=positive, default=SAMPLE, help=f"mutated messages; {SAMPLE:,}, if left out")
+    parser.add_argument("--seconds", type=positive, help="how long they may take; any time, if left out")
     parser.add_argument("--together", type=positive, default=2, metavar="N", help="programs side by side; 2, if left out")
-    parser.add_argument("--seed", default=str(random.randrange(10 ** 9)), help="what the choice begins with")
+    parser.add_argument("--seed", default=SEED, help=f"what the choice begins with; {SEED}, if left out")
+    parser.add_argument("--new-seed", action="store_true", help="draw the seed, and tell it")
+    parser.add_argument("--rules-alone", action="store_true", help="run no program")
     given = parser.parse_args()
-    seconds = given.seconds or (10 ** 6 if given.messages else 15)
-    try:
-        need_programs()
-    except Trouble as why:
-        sys.exit(f"hostile_bytes: {why}")
-    failed = 0
-    tests = [("rules_corners", rules_corners), ("cuts", cuts),
-             ("replaced_bytes", replaced_bytes),
-             ("mutated_sessions", lambda it: mutated_sessions(given.messages or 100_000, seconds, given.seed, it))]
-    tests = [it for it in tests if not given.names or any(word in it[0] for word in given.names)]
-    for name, test in tests:
+    if given.new_seed:
+        given.seed = str(random.randrange(10 ** 9))
+    return given
+
+
+def tests_of(given: argparse.Namespace) -> dict[str, Callable[[], tuple[int, list[Trouble]]]]:
+    """Returns the tests that are asked for, by their names."""
+    tests: dict[str, Callable[[], tuple[int, list[Trouble]]]] = {"mutated_sessions": lambda: mutated_sessions(given)}
+    if not given.rules_alone:
+        first = (rules_corners, cuts, replaced_bytes)
+        tests = {**{it.__name__: functools.partial(it, given.together) for it in first}, **tests}
+    return {name: test for name, test in tests.items() if not given.names or any(word in name for word in given.names)}
+
+
+def main() -> None:
+    given = read_words()
+    if not given.rules_alone:
+        try:
+            need_programs()
+        except Trouble as why:
+            sys.exit(f"hostile_bytes: {why}")
+    passed = failed = waits = 0
+    for name, test in tests_of(given).items():
         begun = time.monotonic()
-        count, faults = test(given.together)
+        count, faults = test()
         for fault in faults[:5]:
             print(f"{name}: {fault}")
         print(f"{name}: {count} tried in {time.monotonic() - begun:.0f} s, {len(faults)} differ", flush=True)
-        failed += bool(faults)
-    print(f"{len(tests) - failed} passed, {failed} failed")
+        passed, failed, waits = passed + (not faults), failed + bool(faults), waits + sum(map(ran_out, faults))
+        if waits >= MOST_RAN_OUT:
+            print(NO_MORE, flush=True)
+            break
+    print(f"{passed} passed, {failed} failed")
     sys.exit(1 if failed else 0)
 
 

@@ -14,6 +14,8 @@ from collections.abc import Callable
 
 import pytest
 
+import hostile_bytes
+import journals_by_chance
 import refusals
 import venues
 from checks import LONG, ROOT, contents, in_order, link_there, put_text
@@ -194,6 +196,36 @@ def test_calls_in_order(together: int) -> None:
     assert [next(results) for _ in range(7)] == list(range(7))
     results.close()
     assert set(range(7)) <= set(begun) <= set(range(7 + together))
+
+
+def sampled(capsys: pytest.CaptureFixture[str], sample: Sample, **words: object) -> tuple[object, list[str], list[str]]:
+    """Takes a sample by the rules alone, and returns how much was tried, what the sample lacks, and what it meets."""
+    came, faults = sample(argparse.Namespace(rules_alone=True, **words))
+    return came, [str(fault) for fault in faults], [line for line in capsys.readouterr().out.splitlines() if "seed" not in line]
+
+
+def test_mutated_messages(capsys: pytest.CaptureFixture[str], monkeypatch: pytest.MonkeyPatch) -> None:
+    """The mutated messages are the same however many programs run side by side. Many of them have to meet all rules, and a few needn't."""
+    few = functools.partial(sampled, capsys, hostile_bytes.mutated_sessions, seconds=None, messages=1_500)
+    monkeypatch.setattr(hostile_bytes, "ALL_MET", 3_000)
+    monkeypatch.setattr(hostile_bytes, "SHOWN", {"a rule that is met": re.compile("35="), "another one": re.compile("36=")})
+    assert few(seed="1", together=1) == (one := few(seed="1", together=3))
+    assert few(seed="2", together=3) != one
+    assert one[1] == []
+    monkeypatch.setattr(hostile_bytes, "ALL_MET", 1_500)
+    assert few(seed="1", together=3)[1] == ["no session met another one"]
+
+
+def test_journals_of_a_seed(capsys: pytest.CaptureFixture[str], monkeypatch: pytest.MonkeyPatch) -> None:
+    """The journals by chance are the same, too. As many as the sample has meet all that is wanted by the sample's seed; by another seed they
+    needn't."""
+    few = functools.partial(sampled, capsys, journals_by_chance.journals, only=None, keep=None, journals=60)
+    assert few(seed="1", together=1) == (one := few(seed="1", together=3))
+    assert few(seed="2", together=3) != one
+    assert one[1] == []
+    monkeypatch.setattr(journals_by_chance, "SAMPLE", 60)
+    assert "no journal met refused for its side" in few(seed="1", together=3)[1]
+    assert few(seed="2", together=3)[1] == []
 
 
 def test_projects_of_links() -> None:
