@@ -234,7 +234,7 @@ def ran(words: list[str], environment: dict[str, str]) -> tuple[int | None, str]
     path = os.path.join(TESTS, words[0])
     if os.path.isdir(path) or os.path.basename(path).startswith("test_"):
         named = [word for it in words[1:] for word in ("--named", it)]
-        options = ["-q", "-x", "-p", "no:cacheprovider", "-p", "no:xdist", "-o", f"faulthandler_timeout={LONG / 2}"]
+        options = ["-q", "-x", "-m", "not long", "-p", "no:cacheprovider", "-p", "no:xdist", "-o", f"faulthandler_timeout={LONG / 2}"]
         return PYTESTS.ran(debian.python_with_pytest(), [*options, *modules_at(path, words[1:]), *named], environment, LONG)
     try:
         it = subprocess.run([debian.python_with_pytest(), path, *words[1:]], env=environment, timeout=LONG, stdout=subprocess.PIPE,

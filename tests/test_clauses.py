@@ -10,13 +10,12 @@ import sys
 
 import pytest
 
-from checks import copy_program
+from checks import LONG, copy_program
 
 pytestmark = pytest.mark.quick
 
 OWN = (*(f"dev/{it}" for it in ("clauses.py", "planted.py", "exports.py", "below.py", "antt.py", "contracts.py", "with_scripts.py")),
        *(f"scripts/{it}" for it in ("crates.py", "needs_python.py", "with_tools.py")), "tests/promises.py", "tests/checks.py")
-PATIENCE = 120
 MAKES = "import sys; sys.path.insert(0, 'dev'); import with_scripts, clauses; sys.stdout.write(clauses.page())"
 CLAIMS, ONE, PROMISES = "crates/lower/src/claims.rt", "crates/lower/src/steps/one.rt", "docs/PROMISES.md"
 ALL, NONE = "crates/lower/must-fail/claims_all.edit", "crates/lower/edits/claims_none.edit"
@@ -258,7 +257,7 @@ def put(path: str, text: str) -> None:
 
 def ran(*words: str) -> tuple[int, list[str]]:
     """A program's status, and all its lines."""
-    it = subprocess.run([sys.executable, *words], stdout=subprocess.PIPE, stderr=subprocess.STDOUT, text=True, timeout=PATIENCE)
+    it = subprocess.run([sys.executable, *words], stdout=subprocess.PIPE, stderr=subprocess.STDOUT, text=True, timeout=LONG)
     return it.returncode, it.stdout.splitlines()
 
 

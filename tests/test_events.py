@@ -89,6 +89,16 @@ def test_wrong_words() -> None:
     assert told("folder", "once", "ABC") == Outcome(1, "", "venue-events: journal fault 41\n")
 
 
+def test_what_is_not_followed() -> None:
+    """A journal that isn't there, and what is none, is refused as `once` refuses it."""
+    assert told("missing", "follow", "ABC") == Outcome(1, "", "venue-events: journal fault 41\n")
+    for data in (b"", b"VNJL", b"no journal at all"):
+        put("J", data)
+        assert told("J", "follow", "ABC") == Outcome(1, "", "venue-events: journal fault 43\n")
+    put("J", long_journal(10)[:-1])
+    assert told("J", "follow", "ABC") == outcome(["J", "follow", "ABC"], {"J": kept()})
+
+
 def test_any_beginning() -> None:
     """Of a journal that is broken off at any byte, or damaged there, the events before it stand, and the fault is told."""
     chance = random.Random("beginnings")
@@ -114,9 +124,10 @@ def test_outputs_that_fail() -> None:
     """A closed pipe and a full disk end it with status 1 and no line, also where nothing is to be told."""
     put("J", long_journal(3_000))
     put("N", journals.empty())
-    with open("/dev/full", "wb") as full:
-        it = subprocess.run([PROGRAM, "J", "once", "ABC"], stdout=full, stderr=subprocess.PIPE, timeout=PATIENCE)
-    assert (it.returncode, it.stderr) == (1, b"")
+    for word in ("once", "follow"):
+        with open("/dev/full", "wb") as full:
+            it = subprocess.run([PROGRAM, "J", word, "ABC"], stdout=full, stderr=subprocess.PIPE, timeout=PATIENCE)
+        assert (word, it.returncode, it.stderr) == (word, 1, b"")
     process = subprocess.Popen([PROGRAM, "J", "once", "ABC"], stdout=subprocess.PIPE, stderr=subprocess.PIPE)
     sure(process.stdout).readline()
     sure(process.stdout).close()
@@ -140,6 +151,7 @@ def test_memory_that_does_not_grow() -> None:
     assert (least, tells_within(least + 500)) == (least, True)
 
 
+@pytest.mark.soak
 def test_beside_a_venue(venue: Callable[..., Venue], member: Callable[[Venue, int], Client]) -> None:
     """While a venue serves, what is told is what its members have heard of; at its end it is all of it."""
     serving = venue(1, journal="J")
@@ -250,6 +262,7 @@ def blocks_by_chance(chance: random.Random, count: int) -> tuple[bytes, list[byt
     return header, blocks
 
 
+@pytest.mark.soak
 def test_follows_what_comes() -> None:
     """Each block's lines come before the next one is there, whatever stands in it, and behind any command; signals end it."""
     for number, stop in enumerate((signal.SIGTERM, signal.SIGINT, signal.SIGTERM)):
@@ -267,14 +280,9 @@ def test_follows_what_comes() -> None:
         follower.end_by(stop)
 
 
+@pytest.mark.soak
 def test_follows_from_nothing() -> None:
-    """An empty journal is followed; one that isn't there, and what is none, is refused as `once` refuses it."""
-    assert told("missing", "follow", "ABC") == Outcome(1, "", "venue-events: journal fault 41\n")
-    for data in (b"", b"VNJL", b"no journal at all"):
-        put("J", data)
-        assert told("J", "follow", "ABC") == Outcome(1, "", "venue-events: journal fault 43\n")
-    put("J", long_journal(10)[:-1])
-    assert told("J", "follow", "ABC") == outcome(["J", "follow", "ABC"], {"J": kept()})
+    """An empty journal is followed."""
     put("J", journals.empty())
     follower = Follower()
     grow(journals.block_of(3, [Entry(1, new_order(1, 2, "20260721-14:30:05", 1, 2, 100, 50))]))
@@ -282,6 +290,7 @@ def test_follows_from_nothing() -> None:
     follower.end_by(signal.SIGTERM)
 
 
+@pytest.mark.soak
 def test_follows_to_damage() -> None:
     """What ends a journal while it is followed: it is cut behind what was told, its header changes, or a block is none."""
     data = long_journal(300)
@@ -309,8 +318,9 @@ def test_follows_to_damage() -> None:
         follower.ends(1, f"venue-events: journal fault {fault}{at}\n")
 
 
+@pytest.mark.soak
 def test_follows_to_a_closed_output() -> None:
-    """A pipe that is closed ends it at the next line, with status 1 and none of its own; so does a full disk."""
+    """A pipe that is closed ends it at the next line, with status 1 and none of its own."""
     put("J", long_journal(20))
     follower = Follower()
     follower.hears(lines_of(kept()))
@@ -318,11 +328,9 @@ def test_follows_to_a_closed_output() -> None:
     grow(journals.block_of(3, [Entry(1, new_order(1, 99, "20260721-14:30:05", 99, 2, 100, 50))]))
     assert (follower.process.wait(PATIENCE), sure(follower.process.stderr).read()) == (1, b"")
     follower.close()
-    with open("/dev/full", "wb") as full:
-        it = subprocess.run([PROGRAM, "J", "follow", "ABC"], stdout=full, stderr=subprocess.PIPE, timeout=PATIENCE)
-    assert (it.returncode, it.stderr) == (1, b"")
 
 
+@pytest.mark.soak
 def test_follows_a_venue(venue: Callable[..., Venue], member: Callable[[Venue, int], Client]) -> None:
     """While a venue serves, the lines of each command come once its member has heard of it."""
     serving = venue(1, journal="J")

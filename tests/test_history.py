@@ -27,7 +27,8 @@ def faults(message: str) -> list[str]:
 
 def test_newest() -> None:
     """The newest commits have that form, where git has them."""
-    said = subprocess.run(["git", "-C", ROOT, "log", f"-{NEWEST}", "--no-merges", "--format=%B%x00"], capture_output=True, text=True)
+    log = ["git", "-C", ROOT, "-c", "log.showSignature=false", "log", f"-{NEWEST}", "--no-merges", "--encoding=UTF-8", "--format=%B%x00"]
+    said = subprocess.run(log, capture_output=True, encoding="utf-8")
     if said.returncode:
         pytest.skip("git has no history here")
     messages = [it.strip("\n") for it in said.stdout.split("\0") if it.strip()]

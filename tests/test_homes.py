@@ -1,5 +1,6 @@
 """Tests of dev/homes.py, by which dev/measures counts where the table of order fields and a match stand: what it takes for one of these, and
 what it passes over. And that no tool has the rules of the tests' oracle."""
+import os
 import re
 import subprocess
 import sys
@@ -38,8 +39,8 @@ def put(files: dict[str, str]) -> None:
     """Makes the test's folder a repository with these files."""
     for path, text in files.items():
         put_text(path, text)
-    subprocess.run(["git", "init", "-q"], check=True)
-    subprocess.run(["git", "add", "."], check=True)
+    for words in (["init", "-q"], ["add", "."]):  # (without the settings of whoever runs the tests)
+        subprocess.run(["git", *words], check=True, env={**os.environ, "GIT_CONFIG_GLOBAL": os.devnull, "GIT_CONFIG_SYSTEM": os.devnull})
 
 
 @pytest.mark.parametrize("what", FURTHER)
@@ -53,8 +54,9 @@ def test_further_homes(what: str) -> None:
         assert [it[:len(place)] for it, place in zip(further, wanted, strict=True)] == wanted
 
 
-def test_without_git() -> None:
+def test_without_git(monkeypatch: pytest.MonkeyPatch) -> None:
     """In a folder that git doesn't know each file counts."""
+    monkeypatch.setenv("GIT_CEILING_DIRECTORIES", os.path.dirname(os.getcwd()))  # (a repository around the test's folder doesn't count)
     for path, text in OWN.items():
         put_text(path, text)
     assert [sorted(it.split()[0] for it in found) for found in homes.counted(".").values()] == [["oracle", "proved", "twin"]] * 2

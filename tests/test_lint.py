@@ -12,13 +12,14 @@ from collections.abc import Iterator
 
 import pytest
 
-from checks import ROOT, copy_program, put_text
+from checks import LONG, ROOT, copy_program, put_text
 
 pytestmark = pytest.mark.quick
 
 LINT = os.path.abspath(os.environ.get("LINT", os.path.join(ROOT, "dev/lint")))
 OWN = ("dev/with_scripts.py", "scripts/crates.py", "scripts/debian.py", "scripts/needs_python.py", "scripts/with_tools.py")
-PATIENCE = 300
+# Git and mypy without the settings of whoever runs the tests.
+OWN_SETTINGS = {"GIT_CONFIG_GLOBAL": os.devnull, "GIT_CONFIG_SYSTEM": os.devnull, "MYPY_FORCE_COLOR": "0"}
 FORM = "autopep8 has another form of what stands here: dev/lint --write"
 FILES: dict[str, tuple[str, list[str]]] = {
     "unused.py": ('import os\nimport sys  # (in front of what a later Python has)\n', ["1: 'os' imported but unused"]),
@@ -51,13 +52,14 @@ def known(*paths: str) -> None:
     for path in ("dev/lint", *OWN):
         copy_program(path, LINT if path == "dev/lint" else "")
     shutil.copy(os.path.join(ROOT, "pyproject.toml"), ".")
-    subprocess.run(["git", "init", "-q"], check=True)
-    subprocess.run(["git", "add", "dev/lint", *OWN, *paths], check=True)
+    for words in (["init", "-q"], ["add", "dev/lint", *OWN, *paths]):
+        subprocess.run(["git", *words], check=True, env={**os.environ, **OWN_SETTINGS})
 
 
 def lint(*words: str) -> tuple[int, list[str]]:
     """The status of dev/lint, and all its lines."""
-    it = subprocess.run([sys.executable, "dev/lint", *words], stdout=subprocess.PIPE, stderr=subprocess.STDOUT, text=True, timeout=PATIENCE)
+    it = subprocess.run([sys.executable, "dev/lint", *words], stdout=subprocess.PIPE, stderr=subprocess.STDOUT, text=True, timeout=LONG,
+                        env={**os.environ, **OWN_SETTINGS, "GIT_CEILING_DIRECTORIES": os.path.dirname(os.getcwd())})
     return it.returncode, it.stdout.splitlines()
 
 

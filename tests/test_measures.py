@@ -11,7 +11,7 @@ import sys
 
 import pytest
 
-from checks import copy_program
+from checks import LONG, copy_program
 
 pytestmark = pytest.mark.quick
 
@@ -19,7 +19,6 @@ OWN = (*(f"dev/{it}" for it in ("measures", "figures.py", "ratchet.py", "way.py"
                                 "with_scripts.py")), *(f"scripts/{it}" for it in ("crates.py", "needs_python.py", "with_tools.py")))
 KEPT, DECISIONS, HEADLINE = "dev/measured.json", "docs/decisions/raised.md", "docs/HEADLINE.md"
 WHY = "a reason that\nstands on two lines"
-PATIENCE = 120
 NINE = "".join(f"    ensures e{it} {{ result ≡ {it} }}\n" for it in range(9))
 TAGS = (11, 38, 40, 41, 44, 54, 55, 59, 60)
 FILES = {
@@ -314,8 +313,10 @@ def add(path: str, text: str) -> None:
 
 
 @pytest.fixture(autouse=True)
-def venue() -> None:
-    """Makes the test's folder the made-up venue, with dev/measures and its modules."""
+def venue(monkeypatch: pytest.MonkeyPatch) -> None:
+    """Makes the test's folder the made-up venue, with dev/measures and its modules. Git reads no settings of whoever runs the tests."""
+    for name in ("GIT_CONFIG_GLOBAL", "GIT_CONFIG_SYSTEM"):
+        monkeypatch.setenv(name, os.devnull)
     other = os.environ.get("MEASURES", "")
     for path in OWN:
         copy_program(path, other if os.path.basename(other) == os.path.basename(path) else "")
@@ -326,7 +327,7 @@ def venue() -> None:
 def measures(*words: str) -> tuple[int, list[str]]:
     """The status of dev/measures, and all its lines."""
     it = subprocess.run([sys.executable, "dev/measures", *words], stdout=subprocess.PIPE, stderr=subprocess.STDOUT, text=True,
-                        timeout=PATIENCE, env={**os.environ, "GIT_CEILING_DIRECTORIES": os.path.dirname(os.getcwd())})
+                        timeout=LONG, env={**os.environ, "GIT_CEILING_DIRECTORIES": os.path.dirname(os.getcwd())})
     return it.returncode, it.stdout.splitlines()
 
 

@@ -82,6 +82,7 @@ def test_threads_with_names() -> None:
         assert is_where(lines) == True
 
 
+@pytest.mark.soak
 def test_threads_of_a_venue() -> None:
     """A venue has a thread for each stage and each gateway, and the watch."""
     with tempfile.TemporaryDirectory(prefix="pin-") as folder:
@@ -114,18 +115,16 @@ def test_where_they_are_put() -> None:
 
 
 def test_wrong_words() -> None:
-    with tempfile.TemporaryDirectory(prefix="pin-") as folder, Running("one") as few, Running(*NAMES, *["more"] * 8) as many, \
-            Running(*NAMES[1:], NAMES[1]) as twice:
-        pid = started(os.path.join(folder, "venue.journal"), 1).process.pid
+    with Running(*NAMES) as pid, Running("one") as few, Running(*NAMES, *["more"] * 8) as many, Running(*NAMES[1:], NAMES[1]) as twice:
         usable = ",".join(map(str, CORES))
         other = os.getpid()
         with open(f"/proc/{other}/comm", encoding="ascii") as file:
             name = file.read().strip()
-        ended = subprocess.Popen(["true"])
-        ended.wait()
+        with open("/proc/sys/kernel/pid_max", encoding="ascii") as file:
+            nobody = int(file.read())  # (above the number of any process)
         for words, line in (
                 (("x",), "PID is a number, and not 'x'"),
-                ((ended.pid,), f"no process {ended.pid}"),
+                ((nobody,), f"no process {nobody}"),
                 ((other,), f"{other} is no venued, but {name}"),
                 ((few,), f"{few} is no venued that listens: it has 2 threads, and not 6 to 13"),
                 ((many,), f"{many} is no venued that listens: it has 16 threads, and not 6 to 13"),

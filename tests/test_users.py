@@ -5,6 +5,7 @@ place of the checker that succeed and fail. What is expected was worked out from
 docs/PROFILE.md: the lines that are printed, the numbers in the picture, read by its own axes, and the statuses.
 """
 import contextlib
+import fcntl
 import io
 import os
 import pty
@@ -21,20 +22,19 @@ from unittest import mock
 import pytest
 
 import crates
-from checks import ROOT, contents, put, put_text, text_of
+from checks import LONG, ROOT, contents, put, put_text, text_of
 from gikvand import journals
 from gikvand.fix import sealed
 from gikvand.journals import Entry
 from gikvand.words import sure
 from pictures import Picture, row_of
 from script_modules import loaded
-from venues import EVENTS, HOST, PATIENCE, REPLAY, TIME, VENUED, Late, Trouble, await_that, free_port, in_some_try
+from venues import EVENTS, HOST, PATIENCE, REPLAY, TIME, VENUED, Late, Trouble, await_that, in_some_try
 from venues import market_order, message, order, running, started
 
 pytestmark = [pytest.mark.quick, pytest.mark.usefixtures("programs")]
 
 PROGRAMS = {"VENUED": os.path.abspath(VENUED), "VENUE_REPLAY": os.path.abspath(REPLAY), "VENUE_EVENTS": os.path.abspath(EVENTS)}
-LONG = 120  # Seconds for a script.
 JOURNAL = "venue.journal"
 BUILT = "isn't built: scripts/build proves and builds it"
 
@@ -205,6 +205,7 @@ def test_answers_in_their_order() -> None:
         assert it.wait(LONG) == 0
 
 
+@pytest.mark.soak
 def test_a_terminal() -> None:
     """At a terminal the arrow up brings the line of before, and what comes meanwhile stands above the line that is edited."""
     venue = started(JOURNAL, 2)
@@ -299,20 +300,23 @@ def test_wrong_words_of_trade() -> None:
 
 def test_venues_that_cannot_be_had() -> None:
     """Where there is no venue, or it doesn't start, the status is 2, and a line says why."""
-    port = free_port(1)
-    assert trade("--port", str(port), "orders") == (
-        2, [], [f"gikvand trade: no venue answers at {HOST}, port {port}: Connection refused"])
+    with socket.socket() as kept:  # (a port that somebody has, and at which nobody listens)
+        kept.bind((HOST, 0))
+        port = kept.getsockname()[1]
+        assert trade("--port", str(port), "orders") == (
+            2, [], [f"gikvand trade: no venue answers at {HOST}, port {port}: Connection refused"])
     put("none.journal", b"no journal")
     status, out, err = trade("--journal", "none.journal", "orders")
     assert (status, out) == (2, [])
     assert err == ["gikvand trade: the journal none.journal can't be read: venue-replay: journal fault 43 (docs/OPERATING.md "
                    "says what that means)"]
-    venue = started(JOURNAL, 1)
-    status, out, err = trade("--journal", JOURNAL, "buy", "1", "ABC", "1")
+    with open(put(JOURNAL, journals.empty()), "rb") as locked:  # (as a venue has its journal)
+        fcntl.flock(locked, fcntl.LOCK_EX)
+        status, out, err = trade("--journal", JOURNAL, "buy", "1", "ABC", "1")
     assert (status, out) == (2, [f"The journal {JOURNAL}, for ABC."])
     assert err == ["venued: journal fault 41",
                    "gikvand trade: venued ended with status 1 (docs/OPERATING.md says what that means)"]
-    assert venue.stop() == (0, 0)
+    assert contents(JOURNAL) == journals.empty()
     assert trade("--port", str(port), "--journal", "typo", "orders") == (
         2, [], ["gikvand trade: typo: No such file or directory"])
     for name in ("VENUED", "VENUE_REPLAY"):
@@ -320,6 +324,7 @@ def test_venues_that_cannot_be_had() -> None:
         assert (name, status, out, [it.endswith(BUILT) for it in err]) == (name, 2, [], [True])
 
 
+@pytest.mark.soak
 def test_members_over_tcp() -> None:
     """Two members of one venue: each has its own port, name and orders."""
     venue = started(JOURNAL, 2, ("ABC", "XYZ"))
@@ -403,6 +408,7 @@ All reports to C2, as FIX
     commands 3 outputs 7"""
 
 
+@pytest.mark.soak
 def test_the_demo() -> None:
     """All that the demo shows, but for its port and the times, and nothing of it left behind."""
     status, out, err = ran([script("demo")], TMPDIR=os.getcwd())
@@ -413,6 +419,7 @@ def test_the_demo() -> None:
     assert (status, err, os.listdir()) == (0, [], [])
 
 
+@pytest.mark.soak
 def test_a_demo_that_is_kept() -> None:
     """With a folder the journal stays there, with its symbols, and other commands read it; one that is there is left as it is."""
     status, out, err = ran([script("demo"), "--keep", "kept"])
@@ -427,7 +434,7 @@ def test_a_demo_that_is_kept() -> None:
 
 
 def test_demos_that_fail() -> None:
-    """A venue that isn't there, can't start, or ends with another status: a line, and status 2. So with wrong words."""
+    """A venue that isn't there, or can't start, has a line, and status 2. So have wrong words."""
     assert ran([script("demo"), "x"])[:2] == (2, [])
     status, out, err = ran([script("demo")], VENUED=os.path.abspath("missing"))
     assert (status, out, [it.endswith(BUILT) for it in err]) == (2, [], [True])
@@ -435,6 +442,11 @@ def test_demos_that_fail() -> None:
     status, out, err = ran([script("demo")], VENUED=os.path.abspath("venued"))
     assert (status, out) == (2, [])
     assert err == ["gikvand demo: venued isn't ready; it said: venued: no memory (docs/OPERATING.md says what that means)"]
+
+
+@pytest.mark.soak
+def test_demos_that_fail_at_their_end() -> None:
+    """A venue that ends with another status has a line, and status 2."""
     put_text("venued", f"#!/bin/sh\n{PROGRAMS['VENUED']} \"$@\"\nexit 3\n", 0o755)
     status, out, err = ran([script("demo")], VENUED=os.path.abspath("venued"))
     assert (status, err) == (2, ["gikvand demo: venued ended with status 3"])
@@ -460,6 +472,7 @@ def end_all_in(folder: str) -> None:
             os.kill(pid, signal.SIGKILL)
 
 
+@pytest.mark.soak
 def test_demos_that_are_ended() -> None:
     """SIGTERM ends the demo with all that it has started, and nothing of it is left behind."""
     with contextlib.ExitStack() as behind:
@@ -625,9 +638,11 @@ def prepare(fails: str = "", **others: str) -> None:
     for name in ("build", "crates.py", "needs_python.py"):
         os.makedirs("repository/scripts", exist_ok=True)
         shutil.copy(script(name), "repository/scripts")
-    put_text("repository/crates.txt", "".join(f"{name}: {below}\n" for name, below in {**CRATES, **others}.items()))
+    sources = [put_text("repository/crates.txt", "".join(f"{name}: {below}\n" for name, below in {**CRATES, **others}.items()))]
     for name in CRATES:
-        put_text(f"repository/crates/{name}/src/{'main' if name.startswith('venue') else 'lib'}.rt", "//\n")
+        sources.append(put_text(f"repository/crates/{name}/src/{'main' if name.startswith('venue') else 'lib'}.rt", "//\n"))
+    for path in sources:
+        os.utime(path, (0, 0))  # (older than what is made of them, also where the file system keeps whole seconds)
     for name in ("rt", "rattle"):
         put_text(f"repository/kit/bin/{name}", CHECKER.format(here=here), 0o755)
     put_text("repository/fails", fails)
@@ -659,6 +674,11 @@ def proved(out: list[str]) -> list[str]:
     return sorted(it.split()[3] for it in out if re.search(r"^ *\d+ of \d+ .*\d+ functions proved", it))
 
 
+# Runs a script of Python on one day, whatever day it is and though midnight comes meanwhile.
+ON_ONE_DAY = ("import runpy, sys, time; day = time.gmtime(); time.gmtime = lambda *_: day; del sys.argv[0]; "
+              "runpy.run_path(sys.argv[0], run_name='__main__')")
+
+
 def test_the_example_member() -> None:
     """Its help is what it says of itself. An edge that begins anew is told from what the file of its numbers has, by that file's name."""
     member = [sys.executable, os.path.join(ROOT, "examples/member.py")]
@@ -668,7 +688,8 @@ def test_the_example_member() -> None:
     put_text("DESK-A.numbers", "7 4\n")
     body = "35=A\x0134=1\x0149=GIKVAND\x0152=20250102-09:30:00\x0156=DESK-A\x0198=0\x01108=30\x01"
     with socket.create_server((HOST, 0)) as server:
-        it = subprocess.Popen([*member, str(server.getsockname()[1])], stdin=subprocess.PIPE, stderr=subprocess.PIPE, text=True)
+        words = [member[0], "-c", ON_ONE_DAY, member[1], str(server.getsockname()[1])]
+        it = subprocess.Popen(words, stdin=subprocess.PIPE, stderr=subprocess.PIPE, text=True)
         running.append(it)
         server.settimeout(PATIENCE)
         with server.accept()[0] as edge:
@@ -720,12 +741,16 @@ def test_room_for_proofs() -> None:
             assert (kilobytes, module.room()) == (kilobytes, count)
 
 
+@pytest.mark.soak
 def test_builds_that_end_others() -> None:
     """Where a crate isn't proved those that are proved beside it end with the script."""
-    build("wide rattle check:fails\nlow rt lib:slow\nlow rattle check:slow", venued="low middle wide")
+    prepare("wide rattle check:fails\nlow rt lib:slow\nlow rattle check:slow", venued="low middle wide")
+    words = [os.path.abspath("repository/scripts/build"), "--jobs", "2"]
+    subprocess.run(words, env={**os.environ, "PATH": path_with_kit()}, stdout=subprocess.DEVNULL, stderr=subprocess.DEVNULL, timeout=PATIENCE)
     await_that("nothing of the build runs", lambda: not processes_in(os.path.abspath("repository")))
 
 
+@pytest.mark.soak
 def test_builds_that_are_ended() -> None:
     """SIGTERM ends a build with all that it has started: the proofs, and the making of a program."""
     with contextlib.ExitStack() as behind:
@@ -737,7 +762,8 @@ def test_builds_that_are_ended() -> None:
 def end_a_build(slow: list[str]) -> None:
     """Ends a build that waits for these commands."""
     prepare("".join(f"{it}:slow\n" for it in slow), venued="low middle wide")
-    with subprocess.Popen([sys.executable, "repository/scripts/build"], stdout=subprocess.PIPE, stderr=subprocess.PIPE, text=True,
+    words = [sys.executable, "repository/scripts/build", "--jobs", "2"]  # (both at once, whatever memory there is)
+    with subprocess.Popen(words, stdout=subprocess.PIPE, stderr=subprocess.PIPE, text=True,
                           env={**os.environ, "PATH": path_with_kit()}) as it:
         await_that(f"the build comes to {slow}", lambda: {*slow} <= {*contents("repository/asked").decode().splitlines()})
         it.terminate()
@@ -770,9 +796,10 @@ def test_builds_that_fail() -> None:
 
 
 def test_builds_that_go_on() -> None:
-    """A check that was killed, as for memory, is tried once more by one process."""
-    status, out, err, asked = build("venued rattle check:once", venued="low middle wide")
-    assert (status, err, proved(out), asked.count("venued rattle check")) == (0, [], sorted(NEEDED), 2)
+    """A check that was killed, as for memory, is tried once more by one process. The check had more processes, since nothing else is left
+    to be proved beside it."""
+    status, out, err, asked = build("venued rattle check:once", venued="low middle wide", venue_replay="venued", venue_events="venued")
+    assert (status, err, "venued" in proved(out), asked.count("venued rattle check")) == (0, [], True, 2)
 
 
 def test_builds_without_a_checker() -> None:

@@ -17,10 +17,11 @@ from unittest import mock
 
 import pytest
 
+from days import each_version, made
 from gikvand import clock, journals
 from gikvand.follow import Source
 from gikvand.words import sure
-from made_journals import JOURNAL, contents, each_version, gikvand, made, put, untimed, with_byte
+from made_journals import JOURNAL, contents, gikvand, put, untimed, with_byte
 from running_tools import Tool
 from venues import PATIENCE, Client, Trouble, await_that, order, started
 
@@ -80,6 +81,15 @@ def audited(data: bytes, blocks: list[int]) -> None:
     assert untimed(line).endswith(f" of {JOURNAL}, ended by a signal")
 
 
+def logged(data: bytes, *ends: int) -> None:
+    """Keeps a log of a journal that ends at one of these gates after the other. Each run of `gikvand audit` ends once it has caught up."""
+    for end in ends:
+        put(JOURNAL, data[:end] + b"\0")
+        with mock.patch.object(importlib.import_module("gikvand.audit"), "keep_on"):
+            assert gikvand("audit", JOURNAL, LOG)[0] == 0
+
+
+@pytest.mark.soak
 def test_blocks_as_they_come() -> None:
     """Each block has a line once it came, with the time, and the bytes, commands and sum of all up to it."""
     for it in each_version():
@@ -101,6 +111,7 @@ def test_blocks_as_they_come() -> None:
         os.remove(LOG)
 
 
+@pytest.mark.soak
 def test_blocks_at_once() -> None:
     """Of blocks that come within one look each has its line."""
     for it in each_version():
@@ -118,24 +129,34 @@ def test_blocks_at_once() -> None:
 def test_goes_on() -> None:
     """A later start has a line for what came meanwhile, and none where nothing did; half a line at the end is taken away."""
     it = made(3)
-    put(JOURNAL, it.data[:it.starts[2]] + b"\0")
-    assert Auditor().has_begun().end()[0] == 0
-    assert Auditor().has_begun().end(signal.SIGINT)[0] == 0
+    gate, last = it.starts[2], len(it.data) - 1
+    logged(it.data, gate, gate)
     assert len(lines()) == 1
     before = contents(LOG)
     for half in (b"", b"2", before.splitlines()[-1][:-1]):
         put(LOG, before + half)
-        put(JOURNAL, it.data)
-        assert Auditor().has_begun().end()[0] == 0
+        logged(it.data, last)
         assert (contents(LOG).startswith(before), len(lines()), lines()[-1][1]) == (True, 2, "stood")
-        put(JOURNAL, it.data[:it.starts[2]] + b"\0")
+
+
+@pytest.mark.soak
+def test_goes_on_behind_a_signal() -> None:
+    """Both signals end an audit in order, and the next one goes on in the same log."""
+    day = made(3)
+    put(JOURNAL, day.data[:day.starts[2]] + b"\0")
+    for number in (signal.SIGTERM, signal.SIGINT):
+        assert Auditor().has_begun().end(number)[0] == 0
+    assert len(lines()) == 1
+    put(JOURNAL, day.data)
+    assert Auditor().has_begun().end()[0] == 0
+    assert [row[1] for row in lines()] == ["stood", "stood"]
 
 
 def test_changed_journals() -> None:
     """Each byte that was changed is found, between which lines it stands; so is a journal that is shorter than the log says."""
     it = made(3)
     ends = [*it.starts, len(it.data) - 1]
-    audited(it.data, ends)
+    logged(it.data, *ends)
     sizes = [int(row[4]) for row in lines()]
     for at in range(len(it.data) - 1):
         put(JOURNAL, with_byte(it.data, at, it.data[at] ^ 1))
@@ -158,6 +179,7 @@ def test_changed_journals() -> None:
     assert gikvand("audit", JOURNAL, LOG, "--check")[0] == 0
 
 
+@pytest.mark.soak
 def test_changed_while_it_goes_on() -> None:
     """A journal that is cut, replaced, gone or written over while it is followed ends it, and so does a log that goes."""
     data = made(3).data
@@ -179,6 +201,7 @@ def test_changed_while_it_goes_on() -> None:
             os.remove(LOG)
 
 
+@pytest.mark.soak
 def test_damage_behind_blocks() -> None:
     """Blocks that come in one go with damage behind them have their lines, and then the damage is told."""
     it = made(3)
@@ -211,8 +234,7 @@ def test_a_signal_as_it_begins() -> None:
 def test_a_signal_while_it_compares() -> None:
     """A signal that comes while the log is compared ends that, and the log stays as it was."""
     it = made(3)
-    put(JOURNAL, it.data)
-    Auditor().has_begun().end()
+    logged(it.data, len(it.data) - 1)
     before = contents(LOG)
     looks = iter([False, True])
     with mock.patch.object(importlib.import_module("gikvand.audit"), "has_signal", lambda _: next(looks)):
@@ -268,8 +290,8 @@ def test_logs_that_take_nothing_more() -> None:
         assert gikvand("audit", JOURNAL, LOG) == (2, [], [f"gikvand audit: {LOG} can't be written: No space left on device. "
                                                           "What stands in it is whole"])
     assert (contents(LOG).startswith(b"#") and contents(LOG).count(b"\n") == 1 and contents(LOG).endswith(b"\n")) == True
-    it = Auditor().has_begun()
-    assert (it.end()[0], len(lines())) == (0, 1)
+    logged(made(3).data, len(made(3).data) - 1)
+    assert len(lines()) == 1
 
 
 WRITE = os.write
@@ -290,6 +312,7 @@ def test_states_of_the_clock() -> None:
     assert re.fullmatch(r"(un)?synchronized \d+|unknown -", clock.state())
 
 
+@pytest.mark.soak
 def test_audited_in_use() -> None:
     """Of a venue in use each order has its line within a moment, also where the system tells nothing of writes."""
     for tells in (True, False):

@@ -13,10 +13,11 @@ from unittest import mock
 import pytest
 
 from board_page import rows_heard, trades_heard
+from days import each_version, made
 from gikvand import board, events, journals, programs, tally
 from gikvand.journals import Entry
 from gikvand.fix import sealed
-from made_journals import JOURNAL, contents, each_version, made, put, untimed, with_byte
+from made_journals import JOURNAL, contents, put, untimed, with_byte
 from venues import PATIENCE, Trouble, message, order, replay, running
 
 pytestmark = [pytest.mark.slow, pytest.mark.usefixtures("programs")]
@@ -49,12 +50,33 @@ def followed(commands: int) -> Followed:
     return Followed().turned(lambda it: it.tally.commands >= commands)
 
 
+class AtOnce:
+    """The lines of a journal by venue-events that has run to its end, in the place of one that follows the journal."""
+
+    def __init__(self, journal: str, symbols: list[str]) -> None:
+        self.lines = told_once(*symbols)
+
+    def come(self, seconds: float) -> list[str]:
+        """Returns all lines at the first call, and none behind that."""
+        lines, self.lines = self.lines, []
+        return lines
+
+    def end(self) -> None:
+        """Does nothing: the program has ended."""
+
+
+def shown(commands: int) -> tally.Json:
+    """Returns what the page shows of the journal that lies here, which has so many commands."""
+    with mock.patch.object(board, "Followed", AtOnce):
+        return followed(commands).told()
+
+
 def test_what_the_page_gets() -> None:
     """The counts, trades, members and depth of a day are those that its members heard of, and that venue-replay
     tells."""
     for it in each_version():
         lines, counts = replay(JOURNAL, "book", ("ABC", "XYZ"))
-        told = followed(counts[0]).told()
+        told = shown(counts[0])
         assert ((told["commands"], told["outputs"]), told["resting"], told["bytes"], told["version"], told["trouble"]) == (
             counts, len(lines), len(it.data), it.version, "")
         assert told["members"] == rows_heard(it.heard, lines, journals.read(it.data).entries)
@@ -81,7 +103,7 @@ def test_deep_books() -> None:
         send(1 + at % 2, 1 + at % 2, 3, 200 if at % 2 == 0 else 1, "59=3|")
     put(JOURNAL, journals.header(3) + journals.in_blocks(3, entries, 7) + journals.CLOSED)
     put(f"{JOURNAL}.symbols", b"ABC\n")
-    told = followed(len(entries)).told()
+    told = shown(len(entries))
     symbol, lines = told["symbols"][0], [line.split() for line in replay(JOURNAL, "book")[0]]
     assert told["commands"] == len(entries)
     for word, side, sign in (("buys", "1", -1), ("sells", "2", 1)):
@@ -96,11 +118,12 @@ def test_deep_books() -> None:
     assert sum(row["fills"] for row in told["members"]) == 36
 
 
+@pytest.mark.soak
 @pytest.mark.usefixtures("journal")
 def test_programs_that_end() -> None:
     """A venue-events that ends keeps the page as it is, and what it said stands there; half a line counts once it is whole."""
     members = followed(commands_of(made(3).data)).told()["members"]
-    first, *rest = [f"{line}\n".encode() for line in told_once()]
+    first, *rest = [f"{line}\n".encode() for line in told_once("ABC", "XYZ")]
     put("lines", b"".join(rest))
     for how, said, status in (("exit 1", "events ended with 1", 2), ("echo of-old >&2; exit 3", "of-old", 2),
                               ("kill -KILL $$", "events ended with -9", 2), ("sleep 600", "", 0)):
@@ -120,9 +143,9 @@ def commands_of(data: bytes) -> int:
     return len(journals.read(data).entries)
 
 
-def told_once() -> list[str]:
+def told_once(*symbols: str) -> list[str]:
     """What venue-events tells of the journal that lies here."""
-    it = subprocess.run([programs.EVENTS, JOURNAL, "once", "ABC", "XYZ"], capture_output=True, text=True, check=True)
+    it = subprocess.run([programs.EVENTS, JOURNAL, "once", *symbols], capture_output=True, text=True, check=True)
     return it.stdout.splitlines()
 
 
@@ -136,6 +159,7 @@ def grow(data: bytes, gate: int) -> None:
         file.write(data[gate:gate + 1])
 
 
+@pytest.mark.soak
 def test_journals_that_change() -> None:
     """A journal that grows is followed. One that is cut, replaced, gone or damaged has a line, and the page keeps what
     it has."""
@@ -183,7 +207,7 @@ def test_times_of_members() -> None:
     put(JOURNAL, journals.header(3) + journals.in_blocks(3, [of_day("20250102", 1, 1, 2, 50), of_day("20250103", 2, 1, 1, 50)], 2)
         + journals.CLOSED)
     put(f"{JOURNAL}.symbols", b"ABC\n")
-    assert [row["when"][:8] for row in followed(2).told()["members"]] == ["20250102", "20250103"]
+    assert [row["when"][:8] for row in shown(2)["members"]] == ["20250102", "20250103"]
 
 
 def test_changes_of_prices() -> None:
@@ -200,6 +224,6 @@ def test_changes_of_prices() -> None:
         wanted.append(change)
         put(JOURNAL, journals.header(3) + journals.in_blocks(3, entries, 2) + journals.CLOSED)
         put(f"{JOURNAL}.symbols", b"ABC XYZ\n")
-        told = followed(len(entries)).told()["symbols"]
+        told = shown(len(entries))["symbols"]
         assert (day, price, told[0]["change"], told[1]["change"]) == (day, price, change, None)
         assert [told[0][side]["levels"] for side in ("buys", "sells")] == [[], []]  # Each order that rested was filled.

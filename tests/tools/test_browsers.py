@@ -14,8 +14,9 @@ from unittest import mock
 
 import pytest
 
+from days import made
 from gikvand import board, follow, pages
-from made_journals import JOURNAL, contents, gikvand, made, put
+from made_journals import JOURNAL, contents, gikvand, put
 from running_tools import Running, kept_ports
 from venues import HOST, PATIENCE, Trouble, await_that, replay
 
@@ -40,6 +41,7 @@ def get(path: str, host: str = "127.0.0.1:1", more: str = "") -> bytes:
 PAGE = "<script>x</script><style>y</style>"
 
 
+@pytest.mark.soak
 def test_requests() -> None:
     """The page is there under its name alone; every other request is refused, with none of its own words in the
     answer."""
@@ -78,6 +80,7 @@ def listening(address: str) -> socket.socket:
     return it
 
 
+@pytest.mark.soak
 def test_browsers() -> None:
     """Who listens hears the newest at once, and what comes, while another takes nothing. One that leaves is let go."""
     shown = pages.Shown()
@@ -92,6 +95,7 @@ def test_browsers() -> None:
         await_that("who left is let go", lambda: shown.listeners == 0)
 
 
+@pytest.mark.soak
 def test_last_words() -> None:
     """The server ends once who listens was told of that, however late its turn at the processor comes."""
     shown, following = pages.Shown(), pages.Shown.next
@@ -109,6 +113,7 @@ def test_last_words() -> None:
         assert heard.read().endswith(pages.ENDED)
 
 
+@pytest.mark.soak
 def test_slow_browsers() -> None:
     """One that takes nothing, and one that stops within its request or sends it byte by byte, is let go in time."""
     shown, count = pages.Shown(), itertools.count()
@@ -130,6 +135,7 @@ def test_slow_browsers() -> None:
         deaf.close()
 
 
+@pytest.mark.soak
 def test_crowds() -> None:
     """Where there are too many connections a further one is closed at once. Once some have left there is room again."""
     with mock.patch.object(pages, "PATIENCE", 90), mock.patch.object(pages.Handler, "timeout", 90), \
@@ -166,6 +172,7 @@ def told_in(heard: BinaryIO) -> Iterator[dict[str, Any]]:
     return (json.loads(line.removeprefix(b"data: ")) for line in heard if line.startswith(b"data: "))
 
 
+@pytest.mark.soak
 @pytest.mark.usefixtures("journal")
 def test_ends_of_a_board() -> None:
     """Both signals end it in order, and who listens hears of that. Its page is the one that lies beside the module. With it ends
@@ -194,6 +201,7 @@ def test_ends_of_a_board() -> None:
     await_that("its venue-events has ended", lambda: not os.path.exists(f"/proc/{follower}/exe"))
 
 
+@pytest.mark.soak
 @pytest.mark.usefixtures("journal")
 def test_a_board_that_stands_still() -> None:
     """A board that is stopped, and goes on behind that, serves its page still: that was no signal which ends it."""
@@ -235,6 +243,13 @@ def test_words_of_board() -> None:
             status, out, err = gikvand("board", *words)
             assert (words, status, out) == (words, 2, [])
             assert (words, err[-1:] if line else bool(err)) == (words, [f"gikvand board: {line}"] if line else True)
+
+
+@pytest.mark.soak
+def test_port_of_a_board() -> None:
+    """A board has its page at the port that the command line names."""
+    put("known.journal", made(3).data)
+    put("known.journal.symbols", b"ABC XYZ\n")
     with kept_ports(1) as port:
         it = Running("known.journal", "--port", str(port))
         assert it.address().startswith(f"http://127.0.0.1:{port}/")

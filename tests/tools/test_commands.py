@@ -14,8 +14,9 @@ from unittest import mock
 import pytest
 
 from checks import ROOT
+from days import each_version, made
 from gikvand import main as tools
-from made_journals import JOURNAL, NOBODY, TOOLS, as_nobody, called, contents, each_version, followed, gikvand, made, put
+from made_journals import JOURNAL, NOBODY, TOOLS, as_nobody, called, contents, followed, gikvand, put
 from venues import PATIENCE
 
 pytestmark = [pytest.mark.slow, pytest.mark.usefixtures("programs")]
@@ -49,10 +50,11 @@ def test_no_rights() -> None:
     """Who may not read the journal, or write the copy, is told so."""
     os.chmod(".", 0o755)
     for name in (JOURNAL, "mine.journal"):
-        put(name, made(3).data)
-        put(f"{name}.symbols", b"ABC XYZ\n")
+        put(name, made(3).data, 0o644)
+        put(f"{name}.symbols", b"ABC XYZ\n", 0o644)  # (whatever the mask of whoever starts the tests)
     os.chmod(JOURNAL, 0)
-    os.chmod("mine.journal", 0o644)
+    for name, *_ in commands_on(JOURNAL):
+        tools.module_of(name)  # (the user nobody can read no module of a project below /root)
     with as_nobody():
         for words in commands_on(JOURNAL):
             status, out, err = gikvand(*words)
@@ -153,8 +155,9 @@ def test_devices_that_fail() -> None:
                 assert (words, gikvand(*words)[2]) == (words, [f"gikvand {words[0]}: {JOURNAL}: Input/output error"])
 
 
-def test_the_command_line() -> None:
+def test_the_command_line(monkeypatch: pytest.MonkeyPatch) -> None:
     """scripts/gikvand itself: its help, its version, and words that are none."""
+    monkeypatch.setenv("COLUMNS", "80")  # (a narrow terminal parts the words of a usage)
     def ran(*words: str) -> tuple[int, str, str]:
         it = subprocess.run([GIKVAND, *words], capture_output=True, text=True, timeout=PATIENCE)
         return it.returncode, it.stdout, it.stderr

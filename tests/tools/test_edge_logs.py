@@ -13,11 +13,12 @@ from unittest import mock
 import pytest
 
 from checks import ROOT
+from days import Day, each_version, made
 from gikvand import edge, logs
 from gikvand.fix import fields_of, sealed
-from made_journals import JOURNAL, SYMBOLS, cancel, contents, each_version, gikvand, made, put, trade
+from made_journals import JOURNAL, cancel, contents, gikvand, put
 from test_reports import as_printed
-from venues import Trouble, order, started, value
+from venues import Trouble, order, value
 
 pytestmark = [pytest.mark.slow, pytest.mark.edge, pytest.mark.usefixtures("programs")]
 
@@ -209,10 +210,7 @@ DESKS_NAMES = [(1, "r", "a"), (2, "r", "edge-desk-2:a"), (3, "r", "edge-desk-3:a
 def test_reports_of_desks() -> None:
     """The reports to one of several desks, as C1.2, are those of its requests, and its log is looked at by its CompID. The first desk is
     told what nobody's are, with a text. Trades are those of the desk that has traded."""
-    venue = started(JOURNAL, 3, list(SYMBOLS))
-    heard: dict[int, list[str]] = {1: [], 2: [], 3: []}
-    trade(venue, DESKS, heard)
-    venue.stop()
+    put(JOURNAL, Day().trade(DESKS).data)
     put(f"{JOURNAL}.symbols", b"ABC XYZ\n")
     record("edge/C1", 1, DESKS_NAMES)
     put(SETTINGS, contents(settings()) + b"[SESSION]\nTargetCompID=DESK-C\nMember=C1\nDesk=2\n")
@@ -353,14 +351,12 @@ def told_of_ends(heard: list[str]) -> list[dict[str, str]]:
 def test_ends_of_days_behind_the_edge() -> None:
     """An order that ends with its day has expired, as its member knows it; a cancel of the edge's that comes too late is told to
     nobody, and any other cancel stays what it is. A log has to have it so."""
-    venue = started(JOURNAL, 3, list(SYMBOLS))
-    heard: dict[int, list[str]] = {1: [], 2: [], 3: []}
-    trade(venue, ENDS, heard)
-    venue.stop()
+    day = Day().trade(ENDS)
+    put(JOURNAL, day.data)
     put(f"{JOURNAL}.symbols", b"ABC XYZ\n")
     record("edge/C1", 1, ENDS_NAMES)
     settings()
-    wanted = told_of_ends(heard[1])
+    wanted = told_of_ends(day.heard[1])
     assert [(it["150"], it["11"]) for it in wanted] == [("0", "day"), ("0", "gtc"), ("F", "day"), ("C", "day"), ("4", "own"),
                                                         ("0", "more"), ("4", "edge-cancel-7")]
     came = [fields_of(line) for line in gikvand("reports", JOURNAL, "C1", "--edge", SETTINGS)[1]]
@@ -379,7 +375,7 @@ def test_ends_of_days_behind_the_edge() -> None:
     for wrong in ({"150": "4", "39": "4"}, {"11": "edge-expiry-3"}, {"41": "day"}, {"151": "70"}, {"58": "edge: else"}):
         logged([*lines[:3], sent(5, "DESK-A", {**wanted[3], **wrong}), *lines[4:]])
         assert (wrong, gikvand(*words)[0] != 0 or " 1 more" in gikvand(*words)[1][-2]) == (wrong, True)
-    late = next(it for it in heard[1] if value(it, "35") == "9")
+    late = next(it for it in day.heard[1] if value(it, "35") == "9")
     logged([*lines, sent(9, "DESK-A", {**fields_of(as_printed(late)), "11": "edge-expiry-4", "41": "day"})])
     assert gikvand(*words)[0] == 1
 
@@ -431,7 +427,7 @@ def write_on(over: threading.Event) -> None:
 
 
 def test_records_in_use() -> None:
-    """A record that is written to meanwhile is read as it stood at a moment, and one whose log begins anew each time is told."""
+    """A record whose newest names stand in its log is read, and stays as it is. One whose log begins anew each time is told."""
     edges()
     with contextlib.closing(sqlite3.connect("edge/C1/C1.db")) as it:
         it.execute("PRAGMA locking_mode = EXCLUSIVE")
@@ -441,14 +437,6 @@ def test_records_in_use() -> None:
         before = contents("edge/C1/C1.db")
         assert edge.Edge(SETTINGS).member(1).name_of("1000") == "late"
         assert contents("edge/C1/C1.db") == before
-    over = threading.Event()
-    writer = threading.Thread(target=write_on, args=(over,))
-    writer.start()
-    try:
-        assert {edge.Edge(SETTINGS).member(1).name_of("1000") for _ in range(50)} == {"late"}
-    finally:
-        over.set()
-        writer.join()
     counts = iter(range(10 ** 6))
     with mock.patch.object(edge, "log_of", lambda _: next(counts)):
         try:
@@ -457,6 +445,23 @@ def test_records_in_use() -> None:
             assert str(why) == "edge/C1/C1.db is written to all the time: ask once more"
         else:
             raise Trouble("a record whose log begins anew each time was read")
+
+
+@pytest.mark.soak
+def test_records_in_use_meanwhile() -> None:
+    """A record that is written to meanwhile is read as it stood at a moment."""
+    edges()
+    with contextlib.closing(sqlite3.connect("edge/C1/C1.db")) as kept:
+        kept.execute("INSERT INTO names VALUES (1000, 'r', 'late', 0)")
+        kept.commit()
+    over = threading.Event()
+    writer = threading.Thread(target=write_on, args=(over,))
+    writer.start()
+    try:
+        assert {edge.Edge(SETTINGS).member(1).name_of("1000") for _ in range(50)} == {"late"}
+    finally:
+        over.set()
+        writer.join()
 
 
 def test_steps_of_prices() -> None:

@@ -7,6 +7,7 @@ import threading
 import pytest
 
 from gikvand import feed, nats
+from venues import PATIENCE
 
 pytestmark = pytest.mark.quick
 
@@ -16,6 +17,12 @@ FIRST = OWN + b"\r\nNats-Sequence: 1"
 SECOND = OWN + b"\r\nNats-Sequence: 2"
 BEGUN = b"INFO {}\r\nPONG\r\n"
 LONG = 3 << 20
+
+
+@pytest.fixture(autouse=True)
+def patience(monkeypatch: pytest.MonkeyPatch) -> None:
+    """Lets a reader wait for a server of the tests as long as any test waits."""
+    monkeypatch.setattr(nats, "PATIENCE", PATIENCE)
 
 
 def answered(header: bytes, text: bytes = b"", word: int = 0) -> bytes:
@@ -103,6 +110,7 @@ def test_late_readers(why: str) -> None:
         assert (came, "refuses" in told, told.endswith(f": '{why}'")) == ([], True, True)
 
 
+@pytest.mark.soak
 def test_a_server_that_says_on(monkeypatch: pytest.MonkeyPatch) -> None:
     """One that says something for ever, and never what was asked for, is left in time."""
     monkeypatch.setattr(nats, "PATIENCE", 0.5)

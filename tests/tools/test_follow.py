@@ -17,12 +17,12 @@ from unittest import mock
 
 import pytest
 
+from days import each_version, made
 from gikvand import journals
 from gikvand.follow import Source
 from gikvand.journals import Entry
 from gikvand.words import sure
-from made_journals import (BEHIND, DAY, JOURNAL, TOOLS, Made, contents, each_version, followed, gikvand, made, put,
-                           untimed, with_byte)
+from made_journals import BEHIND, DAY, JOURNAL, TOOLS, Made, contents, followed, gikvand, put, untimed, with_byte
 from noting import LOCKED, can_be_noted, noted, order_of
 from running_tools import Follower, await_copy
 from traders import Member
@@ -313,6 +313,7 @@ def entries_in(path: str) -> int:
     return len(journals.read(contents(path)).entries) if os.path.exists(path) else 0
 
 
+@pytest.mark.soak
 def test_followed_while_in_use() -> None:
     """Members trade, and the follower is killed again and again, as it begins or once it has copied more: at each moment the copy
     is a beginning, and it catches up."""
@@ -343,6 +344,7 @@ def test_followed_while_in_use() -> None:
     assert (len(counts), counts, counts[-1] > 100) == (len(seen), sorted(counts), True)
 
 
+@pytest.mark.soak
 def test_told_of_writes() -> None:
     """A follower that would look again in ten minutes alone ships what is written at once, since the system tells of the write."""
     whole = made(3)
@@ -363,6 +365,7 @@ def test_told_of_writes() -> None:
         follower.communicate()
 
 
+@pytest.mark.soak
 def test_a_standby() -> None:
     """A venue is killed while it is followed, starts again, and goes on; then another one goes on with the copy."""
     put(f"{JOURNAL}.symbols", b"ABC\n")
@@ -388,6 +391,7 @@ def test_a_standby() -> None:
     assert (standby.stop(), counts[0] > 100) == (counts, True)
 
 
+@pytest.mark.soak
 def test_ends_of_a_follower() -> None:
     """Both signals end it in order; another file under the journal's name, and one that is cut, end it with a line."""
     data = made(3).data
@@ -422,6 +426,7 @@ def test_cut_behind_a_look() -> None:
         assert followed(JOURNAL, "the.copy")[::2] == (2, [f"gikvand follow: {JOURNAL} has become shorter than what was read of it"])
 
 
+@pytest.mark.soak
 def test_copies_that_go() -> None:
     """A copy that is removed, moved or replaced while it is followed ends the follower with a line, with and without growth."""
     data, start = made(3).data, made(3).starts[-1]
@@ -479,7 +484,11 @@ def test_calls_of_a_new_copy() -> None:
     put(JOURNAL, made(3).data)
     put(f"{JOURNAL}.symbols", b"ABC XYZ\n")
     words = [sys.executable, "-S", "-m", "gikvand", "follow", JOURNAL, "the.copy", "--once"]
-    status, calls = noted(*words, PYTHONPATH=TOOLS, PYTHONDONTWRITEBYTECODE="1")
+    mask = os.umask(0o022)  # (the follower has the mask of whoever starts the tests)
+    try:
+        status, calls = noted(*words, PYTHONPATH=TOOLS, PYTHONDONTWRITEBYTECODE="1")
+    finally:
+        os.umask(mask)
     def making(name: str) -> list[str]:
         return [f"open {name}.new", f"write {name}.new", f"sync {name}.new", f"rename {name}.new {name}", "sync ."]
     names = ("the.copy", "the.copy.symbols")
@@ -487,7 +496,7 @@ def test_calls_of_a_new_copy() -> None:
     first, second = (found.index(f"open {it}.new") for it in names)
     assert (status, found[first:first + 5], found[second:second + 5]) == (0, *map(making, names))
     assert f"flock the.copy {LOCKED}" in found[first:second]
-    assert [oct(os.stat(it).st_mode & 0o777 & ~0o022) for it in names] == ["0o600", "0o644"]
+    assert [oct(os.stat(it).st_mode & 0o777) for it in names] == ["0o600", "0o644"]
 
 
 def test_lines_in_time() -> None:
@@ -530,6 +539,7 @@ def test_ends_of_a_backup() -> None:
     assert contents("the.copy").startswith(it.data[:-1])
 
 
+@pytest.mark.soak
 @pytest.mark.usefixtures("journal")
 def test_one_follower_a_copy() -> None:
     """A second one on the same copy is refused, and so is `watch` told that no venue serves it; `why` names it by its words."""

@@ -51,8 +51,7 @@ def test_programs_on_the_path(monkeypatch: pytest.MonkeyPatch) -> None:
     """Without names those on the path are looked at."""
     put_manifest()
     put_text(PROGRAM, "packaged", 0o755)
-    python = os.path.dirname(os.path.realpath("/usr/bin/env"))
-    monkeypatch.setenv("PATH", f"{os.path.abspath('bin')}:{python}")
+    monkeypatch.setenv("PATH", os.path.abspath("bin"))  # (a gikvand that is installed has its programs in /usr/bin)
     status, out, _ = gikvand("provenance", NAME)
     assert (status, out[3]) == (0, f"{os.path.abspath(PROGRAM)}: venued of this release, as it was packaged")
     os.remove(PROGRAM)

@@ -9,9 +9,10 @@ from unittest import mock
 
 import pytest
 
+from days import each_version, made
 from gikvand import events, journals, programs
 from gikvand.journals import Entry
-from made_journals import JOURNAL, TOOLS, as_nobody, each_version, gikvand, made, put
+from made_journals import JOURNAL, TOOLS, as_nobody, gikvand, put
 from venues import TIME, Client, message, order, started, value
 
 pytestmark = [pytest.mark.slow, pytest.mark.usefixtures("programs")]
@@ -144,6 +145,7 @@ def test_what_stands_before_damage() -> None:
                 assert (words, size, whole[0], broken) == (words, size, 0, (2, whole[1], [line]))
 
 
+@pytest.mark.soak
 def test_reports_of_a_journal_in_use() -> None:
     """While a member trades each call shows a beginning of what it is told, and all of it once it is told that."""
     venue = started(JOURNAL, 2)

@@ -96,6 +96,7 @@ def failed(lie: str) -> dict[str, str]:
         return found
 
 
+@pytest.mark.soak
 def test_honest_store() -> None:
     """A store that keeps its contract passes in all; nothing of ours is left on it."""
     with store() as folder:
@@ -106,6 +107,7 @@ def test_honest_store() -> None:
         assert said["fresh opens"] == "pass: an old byte in 0 of 20 rounds; behind before-start in 0"
 
 
+@pytest.mark.soak
 def test_what_is_not_tried() -> None:
     """Without what cuts or kills a machine the properties that need it aren't tried."""
     for happens, wanted in (((), [*BY_A_CUT, *BY_A_LOSS]), (("cut", "join"), BY_A_LOSS), (("kill", "start"), BY_A_CUT)):
@@ -115,16 +117,19 @@ def test_what_is_not_tried() -> None:
             assert (happens, status, sorted(left)) == (happens, 0, sorted(wanted))
 
 
+@pytest.mark.soak
 def test_late_writes() -> None:
     """A store that lets in, later, who was cut off."""
     assert list(failed("late")) == ["no late writes"]
 
 
+@pytest.mark.soak
 def test_stale_reads() -> None:
     """A machine that remembers what it looked at: before-start makes up for that where the machine can forget."""
     assert failed("stale") == {"fresh opens": "fail: an old byte in 20 of 20 rounds; behind before-start in 0"}
 
 
+@pytest.mark.soak
 def test_stale_reads_for_good() -> None:
     """A machine that remembers, and can't forget."""
     with store("mapped") as folder:
@@ -132,6 +137,7 @@ def test_stale_reads_for_good() -> None:
         assert (status, said["fresh opens"]) == (1, "fail: an old byte in 2 of 2 rounds; behind before-start in 2")
 
 
+@pytest.mark.soak
 def test_locks_passed_early() -> None:
     """A lock that passes on by a time, as a lease does."""
     found = in_some_try(lambda _: passed_early(), "locks_passed_early")
@@ -145,18 +151,21 @@ def passed_early() -> str:
     return found["passed on"]
 
 
+@pytest.mark.soak
 def test_syncs_that_lie() -> None:
     """A store that tells of a sync before it has the bytes."""
     found = failed("sync")
     assert found["majority syncs"].startswith("fail: b has 1 of ")
 
 
+@pytest.mark.soak
 def test_success_while_cut_off() -> None:
     """A store that tells a machine of success which is cut off."""
     found = failed("cut")
     assert "no false success" in found and "majority syncs" not in found
 
 
+@pytest.mark.soak
 @pytest.mark.usefixtures("programs")
 def test_a_venue_goes_on() -> None:
     """Last a real venue goes on: behind its end, a cut and a loss; what its members were told stands in the journal."""
@@ -169,6 +178,7 @@ def test_a_venue_goes_on() -> None:
             assert (happens, int(sure(found)[1]) > 300) == (happens, True)
 
 
+@pytest.mark.soak
 @pytest.mark.usefixtures("programs")
 def test_a_venue_that_loses_reports() -> None:
     """A report that a member was told, and that the journal doesn't tell, is found: here venue-replay leaves one out."""
@@ -179,6 +189,7 @@ def test_a_venue_that_loses_reports() -> None:
         assert (status, said["a venue"][:34]) == (1, "fail: C1: the venue didn't tell it")
 
 
+@pytest.mark.soak
 def test_folders_in_use() -> None:
     """A folder in which something else is stays as it is, as one of a venue; so does one that isn't the same on all machines."""
     with store() as folder:
@@ -199,6 +210,7 @@ def test_words() -> None:
             assert (more, status, out, said in err) == (more, 2, "", True)
 
 
+@pytest.mark.soak
 def test_commands_that_fail() -> None:
     """A command that ends badly is told, with what it said; a machine that can't be reached too."""
     with store() as folder:

@@ -13,7 +13,7 @@ from gikvand import journals
 from made_journals import JOURNAL, TOOLS, called, contents, gikvand, put
 from noting import can_be_noted, noted, order_of
 from running_tools import kept_ports
-from venues import HOST, PATIENCE, free_port
+from venues import HOST, PATIENCE
 
 pytestmark = [pytest.mark.slow, pytest.mark.usefixtures("programs")]
 
@@ -77,9 +77,8 @@ def test_symbols_of_the_service() -> None:
     def before(symbols: str) -> tuple[int, str]:
         return of_the_service("ExecStartPre", symbols)
     def behind(symbols: str) -> bytes:
-        port = str(free_port(1))
-        with socket.create_server((HOST, int(port))):
-            status, err = of_the_service("ExecStartPost", symbols, str(os.getpid()), PORT=port, GATEWAYS="1")
+        with socket.create_server((HOST, 0)) as listener:
+            status, err = of_the_service("ExecStartPost", symbols, str(os.getpid()), PORT=str(listener.getsockname()[1]), GATEWAYS="1")
         assert (status, err) == (0, "")
         return contents(f"{JOURNAL}.symbols")
     assert (before("ABC  XYZ"), os.listdir()) == ((0, ""), [])
@@ -116,9 +115,9 @@ def test_calls_of_the_symbols() -> None:
         assert status == 0
         return [it for it in order_of(calls, name, f"{name}.new", ".") if it != f"write {name}.new"]
     def of_the_unit() -> list[str]:
-        port = free_port(1)
-        with socket.create_server((HOST, port)):
-            status, calls = noted(*words_of_the_service("ExecStartPost")[0][:3], str(os.getpid()), PORT=str(port), GATEWAYS="1",
+        with socket.create_server((HOST, 0)) as listener:
+            port = str(listener.getsockname()[1])
+            status, calls = noted(*words_of_the_service("ExecStartPost")[0][:3], str(os.getpid()), PORT=port, GATEWAYS="1",
                                   SYMBOLS="ABC", PATH="/usr/bin:/bin")
         assert status == 0
         return order_of(calls, name, f"{name}.new", ".")
@@ -130,6 +129,7 @@ def test_calls_of_the_symbols() -> None:
         os.remove(name)
 
 
+@pytest.mark.soak
 def test_starts_of_the_service() -> None:
     """A start is done once each port listens, and has failed where the program ended before. Nobody else may listen there."""
     with kept_ports(2) as first:

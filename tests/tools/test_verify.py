@@ -7,9 +7,10 @@ from unittest import mock
 
 import pytest
 
+from days import each_version, made
 from gikvand import journals, mends
 from gikvand.journals import Entry
-from made_journals import BEHIND, DAY, JOURNAL, SYMBOLS, contents, each_version, gikvand, made, put, with_byte
+from made_journals import BEHIND, DAY, JOURNAL, SYMBOLS, contents, gikvand, put, with_byte
 from venues import Client, Trouble, message, order, replay, started, value
 
 pytestmark = [pytest.mark.slow, pytest.mark.usefixtures("programs")]
@@ -211,6 +212,7 @@ def test_wrong_logs() -> None:
         assert (status, any("the journal's reports end before it" in line for line in out), out[-3]) == (1, True, f"    {mends.LOGGED}")
 
 
+@pytest.mark.soak
 def test_journals_in_use() -> None:
     """While members trade a journal may be looked at, and what is just being written is no finding."""
     put(f"{JOURNAL}.symbols", b"ABC\n")

@@ -13,9 +13,10 @@ from unittest import mock
 
 import pytest
 
+from days import each_version, made
 from gikvand import journals
-from made_journals import JOURNAL, SYMBOLS, as_nobody, cancel, contents, each_version, gikvand, made, put, with_byte
-from venues import PATIENCE, REPLAY, Client, Venue, await_that, free_port, order, started
+from made_journals import JOURNAL, SYMBOLS, as_nobody, cancel, contents, gikvand, put, with_byte
+from venues import PATIENCE, REPLAY, VENUED, Client, await_that, order, started
 
 pytestmark = [pytest.mark.slow, pytest.mark.usefixtures("programs")]
 
@@ -55,13 +56,13 @@ def test_whys_of_names() -> None:
         assert causes(JOURNAL) == (0, [f"{JOURNAL}: nothing stands in the way, as {who}: it opens"])
 
 
-def started_with(journal: str) -> str | None:
+def started_with(journal: str) -> str:
     """What venued says that doesn't start on this journal."""
-    venue = Venue(free_port(1), journal, 1, SYMBOLS)
-    line = venue.out.next()
-    return venue.err.next() if line is None else line
+    ran = subprocess.run([VENUED, "-", journal, "1", *SYMBOLS], stdin=subprocess.DEVNULL, capture_output=True, text=True, timeout=PATIENCE)
+    return (ran.stdout + ran.stderr).strip()
 
 
+@pytest.mark.soak
 def test_whys_of_a_lock() -> None:
     venue = started(JOURNAL, 1, SYMBOLS)
     assert causes(JOURNAL) == (1, [f"in use: venued (process {venue.process.pid}) has it, and each other start is fault 41"])
@@ -74,6 +75,8 @@ def test_whys_of_rights() -> None:
     """Who may not read and write the file, or not make one in its folder, is told so."""
     os.chmod(".", 0o755)
     put(JOURNAL, made(3).data)
+    put(f"{JOURNAL}.symbols", b"ABC XYZ\n", 0o644)
+    importlib.import_module("gikvand.why")  # (the user nobody can read no module of a project below /root)
     if os.geteuid():
         os.chmod(JOURNAL, 0o444)
         assert [it.rpartition(": ")[2] for it in causes(JOURNAL)[1]] == ["Permission denied"]
@@ -207,6 +210,7 @@ def figures_of(lines: list[str]) -> dict[str, float]:
     return found
 
 
+@pytest.mark.soak
 def test_a_venue_watched() -> None:
     """Its process, journal and members, in words and as figures: who is connected, who waits, and what isn't taken."""
     put(f"{JOURNAL}.symbols", b"ABC\n")
@@ -261,6 +265,7 @@ def test_a_venue_watched() -> None:
     assert (found["gikvand_up"], [it for it in found if "member" in it]) == (0, [])
 
 
+@pytest.mark.soak
 def test_closed_connections_watched() -> None:
     """Who waited at a port, and has closed the connection, waits no more, though the port still has it."""
     put(f"{JOURNAL}.symbols", b"ABC\n")
@@ -303,7 +308,12 @@ def test_damaged_journals_watched() -> None:
         assert "gikvand_journal_readable" not in figures_of(gikvand("watch", JOURNAL, "--prometheus", "--quick")[1])
     put(f"{JOURNAL}.symbols", b"ABC XYZ\n")
     assert figures_of(gikvand("watch", JOURNAL, "--prometheus")[1])["gikvand_journal_readable"] == 1
-    venue = started(put("other.journal", data), 1, SYMBOLS)
+
+
+@pytest.mark.soak
+def test_a_venue_watched_without_symbols() -> None:
+    """A venue whose symbols can't be read is one that serves."""
+    venue = started(put("other.journal", made(3).data), 1, SYMBOLS)
     put("other.journal.symbols", b"?\n")
     assert [line.split(" for ")[0] for line in gikvand("watch", "other.journal")[1][:1]] == (
         [f"venued (process {venue.process.pid}) serves other.journal"])
@@ -314,15 +324,15 @@ def test_figures_of_a_disk() -> None:
     """Root's reserve is no room, the age is that of the bytes, and a name's quotes are escaped."""
     name = 'a"b\\c.journal'
     put(name, made(3).data)
-    os.utime(name, (0, time.time() - 4980))
+    os.utime(name, (0, 1_000_000))
     disk = Room(f_bavail=7, f_frsize=4096)
-    with mock.patch.object(os, "statvfs", lambda _: mock.Mock(f_bavail=disk.f_bavail, f_bfree=9, f_frsize=4096, f_bsize=8192)):
+    with mock.patch.object(os, "statvfs", lambda _: mock.Mock(f_bavail=disk.f_bavail, f_bfree=9, f_frsize=4096, f_bsize=8192)), \
+            mock.patch.object(time, "time", lambda: 1_004_980.0):
         _, out, _ = gikvand("watch", name, "--quick", "--prometheus")
         _, words, _ = gikvand("watch", name, "--quick")
     label = '{journal="a\\"b\\\\c.journal"}'
     assert f"gikvand_disk_free_bytes{label} {7 * 4096}" in out
-    age = next(float(it.split()[-1]) for it in out if it.startswith("gikvand_newest_block_age_seconds"))
-    assert 4980 <= age < 4980 + PATIENCE
+    assert f"gikvand_newest_block_age_seconds{label} 4980.0" in out
     assert words[1:] == [f"the journal has {len(made(3).data)} bytes, the newest block is 83 min old, and 28672 bytes are free"]
 
 
