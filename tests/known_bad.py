@@ -6,8 +6,9 @@ to refuse every one.
 
 `wrong_rules`: each rule of tests/oracle for a member's bytes and for the book, turned off or turned round (tests/wrong_rules.py), differs
 from the right ones at a session of tests/corners.py. `wrong_answers`: the bytes that are due in a session, with one byte, one
-message, their order, a number or a price changed. `wrong_lines`: the same of what venue-replay prints. `wrong_venues` and
-`wrong_replays`: tests/test_members.py, tests/hostile_bytes.py, tests/refused_memory.py, tests/test_worked_journals.py and
+message, their order, a number or a price changed. `wrong_lines`: the same of what venue-replay prints. `wrong_memory`: the first
+session of tests/refused_memory.py, with programs that never have memory, or hide that they have none. `wrong_venues` and
+`wrong_replays`: tests/test_members.py, tests/hostile_bytes.py, tests/test_worked_journals.py and
 tests/journals_by_chance.py, with programs in the place of the built ones that do as these do, but for one thing
 (tests/wrong_program.py). `wrong_tools`:
 tests/tools, tests/test_board_page.py and tests/follow_load.py, with commands of gikvand that are wrong in one thing
@@ -303,8 +304,12 @@ def wrong_venues() -> tuple[int, list[str]]:
     runs += [(sessions, venued, wrong) for wrong in ("", "another status")]
     count, faults = all_refuse(runs)
     faults += taken_sessions(wrong_program.OVER_STREAMS)
-    faults += taken_first_sessions(wrong_program.OF_MEMORY) if shutil.which("cc") else []
-    return count + len(wrong_program.OVER_STREAMS) + len(wrong_program.OF_MEMORY), faults
+    return count + len(wrong_program.OVER_STREAMS), faults
+
+
+def wrong_memory() -> tuple[int, list[str]]:
+    """Venues that do wrong where a request for memory is refused, or that never have any."""
+    return len(wrong_program.OF_MEMORY), taken_first_sessions(wrong_program.OF_MEMORY) if shutil.which("cc") else ["cc isn't there"]
 
 
 def taken_sessions(wrongs: list[str]) -> list[str]:
@@ -432,7 +437,7 @@ def main() -> None:
         need_programs()
     except Trouble as why:
         sys.exit(f"known_bad: {why}")
-    tests = [wrong_rules, wrong_answers, wrong_lines, wrong_venues, wrong_replays, wrong_tools, wrong_packages, wrong_edge_packages,
+    tests = [wrong_rules, wrong_answers, wrong_lines, wrong_memory, wrong_venues, wrong_replays, wrong_tools, wrong_packages, wrong_edge_packages,
              wrong_scripts, taken_ones]
     chosen = [it for it in tests if not sys.argv[1:] or any(word in it.__name__ for word in sys.argv[1:])]
     failed = 0
