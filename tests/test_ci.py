@@ -1,7 +1,7 @@
-"""Tests of the check itself, scripts/check and .ci/run, which calls it: what it counts of its parts, that a part which fails, crashes or
-tries too few tests makes it fail, that it leaves none out, and what it says where something isn't there.
+"""Tests of scripts/check, of .ci/run, which calls scripts/check, and of scripts/soak: what is counted of the parts, that a part which
+fails, crashes or tries too few tests makes the check fail, that no part is left out, and what is said where something isn't there.
 
-Each of its parts is a script that says what it is told to. CI_RUN and CHECK in the environment name another .ci/run and another
+Each part is a script here, which says what the test wants. CI_RUN and CHECK in the environment name another .ci/run and another
 scripts/check: tests/known_bad.py puts wrong ones there.
 """
 import collections
@@ -9,25 +9,29 @@ import fnmatch
 import glob
 import os
 import re
+import shlex
 import shutil
 import subprocess
 import sys
-from types import ModuleType
+from collections.abc import Iterable
 from typing import NamedTuple
 
 import pytest
 
 import crates
+import part_runs
+import venues
 from checks import ROOT, copy_program, put_text, text_of
-from script_modules import loaded
-from venues import Late, in_some_try
+from part_runs import CORES, Runs
+from parts import GATE, PARTS, PROOFS, SETUPS, SOAK, Part
 
 pytestmark = pytest.mark.quick
 
 RUN, CHECK = (os.path.abspath(os.environ.get(name, os.path.join(ROOT, path)))
               for name, path in (("CI_RUN", ".ci/run"), ("CHECK", "scripts/check")))
-MODULES = ("scripts/crates.py", "scripts/debian.py", "scripts/needs_python.py")
-PATIENCE = 120
+MODULES = ("scripts/crates.py", "scripts/debian.py", "scripts/needs_python.py", "scripts/parts.py", "scripts/part_runs.py")
+SCRIPTS = {"scripts/check": CHECK, ".ci/run": RUN, "scripts/soak": ""}
+PATIENCE = 300
 PART = '#!/bin/bash\necho "{name} $*" >>{asked}\n{does}\n'
 NOTES = 'echo "${0##*/} $* in ${PWD##*/}" >>"$NOTED"\n'
 A_PLAY = "tests/one.play"
@@ -46,33 +50,33 @@ case "$1 $2" in
 esac
 """
 ELSEWHERE = ("rt", "chromium", "glusterd", "valgrind", "apt-get")  # Programs of the path.
+MARKED = "marked"  # The part of the tests that have the mark of the soak.
 BUILT = ("crates/venued/out/venued", "crates/venue_replay/out/venue_replay", "crates/venue_events/out/venue_events",
          "crates/bench/out/bench", "edge/out/gikvand-edge", "edge/out/tradeclient", "edge/out/FIX44.xml",
          "crates/edge_frames_c/out/libedge_frames_c.a", "feed/out/gikvand-feed")
-# Executables that aren't of the full check, or are called by one.
-NO_PARTS = {"dev/play", "dev/images", "dev/bench", "dev/bench-tools", "dev/bench-venue", "dev/costs", "dev/kill-and-restart", "dev/reads",
+# Executables that are no parts, or are called by one.
+NO_PARTS = {"dev/play", "dev/images", "dev/bench", "dev/bench-tools", "dev/bench-venue", "dev/kill-and-restart", "dev/reads",
             "tests/oracle/replay_rules.py", "tests/oracle/events_rules.py", "edge/certify", "edge/speed", "edge/try",
             "feed/servers", "feed/speed"}
 
 
-def checker() -> ModuleType:
-    """The check as a module: its parts, by its own table."""
-    return loaded(CHECK)
-
-
-def counted() -> dict[str, int]:
-    """The parts that have a last line, each with its least count."""
-    module = checker()
-    return {it.name: it.least for it in module.PARTS if it.name not in module.SETUPS}
+def counted(found: Iterable[Part] = PARTS) -> dict[str, int]:
+    """Returns the least counts of these parts, but for the setups, which have no last line."""
+    return {part.name: part.least for part in found if part.name not in SETUPS}
 
 
 def every() -> int:
-    """How many pass where all do: the least counts."""
-    return sum(counted().values())
+    """Returns how many tests pass in a full check in which all pass: the sum of the least counts."""
+    return sum(counted(GATE).values())
+
+
+def until(path: str) -> str:
+    """Returns what a part does that waits until this file is there."""
+    return f"for at in $(seq {20 * venues.PATIENCE}); do [ -e {path} ] && break; sleep 0.05; done; [ -e {path} ] || exit 1"
 
 
 def passes(count: int) -> str:
-    """What a part does of which so many tests pass."""
+    """Returns what a part does of which `count` tests pass."""
     return f"echo something; echo '{count} passed, 0 failed'"
 
 
@@ -97,16 +101,16 @@ def ran(*words: str, by: str = "scripts/check", without: tuple[str, ...] = (), *
     shutil.rmtree("tree", ignore_errors=True)
     asked = os.path.abspath("tree/asked")
     stubs = {f"path/{it}": (it, ["true"]) for it in ELSEWHERE if it not in without}
-    for it in checker().PARTS:
-        program, _, given = it.command.partition(" ")
+    for part in PARTS:
+        program, _, given = flat(part.command).partition(" ")
         if program == "pytest":
-            path = "modules/" + re.sub("-n ([0-9]+|{cores})", "-n N", it.command).replace("/", ":")
+            path = "modules/" + re.sub("-n ([0-9]+|{cores})", "-n N", flat(part.command)).replace("/", ":")
         else:
             path = program if os.sep in program else f"path/{program}"
         if program not in without:
-            given, does = given.replace("{cores}", '"*"'), others.get(it.name, passes(max(1, it.least)))
+            given, does = given.replace("{cores}", '"*"'), others.get(part.name, passes(max(1, part.least)))
             stubs.setdefault(path, (program, []))[1].append(f'case "$*" in "{given}") {does};; esac')  # (one may be two parts)
-    for path in [*BUILT, *MODULES, "scripts/check", ".ci/run"]:
+    for path in [*BUILT, *MODULES, *SCRIPTS]:
         os.makedirs(os.path.dirname(os.path.join("tree", path)), exist_ok=True)
     for path, (name, texts) in stubs.items():
         put_text(os.path.join("tree", path), PART.format(name=name, asked=asked, does="\n".join(texts)), 0o755)
@@ -116,7 +120,7 @@ def ran(*words: str, by: str = "scripts/check", without: tuple[str, ...] = (), *
     for path in BUILT:
         if path not in without:
             shutil.copy("/bin/true", os.path.join("tree", path))
-    for path, source in (("scripts/check", CHECK), (".ci/run", RUN), *((it, "") for it in MODULES)):
+    for path, source in (*SCRIPTS.items(), *((it, "") for it in MODULES)):
         copy_program(path, source, "tree")
         os.chmod(os.path.join("tree", path), 0o755)
     kept = {name: value for name, value in os.environ.items()
@@ -131,38 +135,74 @@ def ran(*words: str, by: str = "scripts/check", without: tuple[str, ...] = (), *
     return Ran(it.returncode, it.stdout.splitlines(), it.stderr, called)
 
 
-def commands(names: set[str] | None = None, cores: int | None = None) -> list[str]:
-    """The commands of these parts, or of all."""
-    module = checker()
-    return [it.shown(module.CORES if cores is None else cores) for it in module.PARTS if names is None or it.name in names]
+def flat(command: str) -> str:
+    """Returns the words of a command, as a script is told them."""
+    return " ".join(shlex.split(command))
+
+
+def commands(names: Iterable[str], cores: int) -> list[str]:
+    """Returns the commands of these parts, in the order of the table, where each may run so many programs."""
+    return [flat(part.shown(cores)) for part in PARTS if part.name in {*names}]
+
+
+def of_check(names: Iterable[str] | None = None) -> list[str]:
+    """Returns the commands of these parts of the full check, or of all of them: a part beside the proofs runs one program."""
+    return [flat(part.shown(1 if part.is_free() else CORES)) for part in GATE if names is None or part.name in {*names}]
 
 
 def test_all_pass() -> None:
-    """Where all pass the counts of all parts are added, and each was called, in the table's order but for those that wait."""
+    """Where all parts pass, their counts are added, and each part of the full check was called and no other one: in the order of the
+    table, but for the parts beside the proofs."""
     came = ran(by=".ci/run")
     assert (came.status, came.last, came.again()) == (0, f"{every()} passed, 0 failed", [])
-    parts = checker().PARTS
-    ends = [line.split()[0] for line in came.lines[1:-2]]  # (a line a part, and what it says is kept)
-    for waits in (True, False):
-        names = [it.name for it in parts if it.has("waits") == waits]
-        assert [it for it in came.called if it in commands(set(names))] == commands(set(names))
-        assert [it for it in ends if it in names] == names
-    assert (sorted(came.called), len(ends)) == (sorted(commands()), len(parts))
-    assert said_by("users") == ["something", f"{counted()['users']} passed, 0 failed"]
-    assert [re.search(r"(?:check: |; )\d+ cores; .* of memory and .* of disk are free$", came.lines[it]) is None for it in (0, -2)] == [False] * 2
+    ends = [line.split()[0] for line in came.lines[1:-3]]  # (a line for each part; what a part says stands in its file)
+    beside = [part.name for part in [*filter(Part.is_free, GATE), *(it for it in GATE if it.has("waits"))]]
+    for names in (beside, [part.name for part in GATE if part.name not in beside]):
+        of_these = [command for name in names for command in of_check([name])]
+        assert [command for command in came.called if command in of_these] == of_these
+        assert [name for name in ends if name in names] == names
+    assert (sorted(came.called), len(ends)) == (sorted(of_check()), len(GATE))
+    assert said_by("play") == ["something", f"{counted()['play']} passed, 0 failed"]
+    assert [re.search(r"(?:check: |; )\d+ cores; .* of memory and .* of disk are free$", came.lines[at]) is None for at in (0, -2)] == [False] * 2
+    assert re.search(r"^\d+ minutes of a processor; the bound from nothing is 125, or 0: 70 times the 0 s of the proof", came.lines[-3])
 
 
-def test_those_that_wait() -> None:
-    """A part that waits runs beside those behind it, and one behind the other of its kind; one of the edge or the feed is behind
-    its setup."""
-    late = "for it in $(seq 900); do [ -e users ] && break; sleep 0.1; done; [ -e users ] || exit 1; sleep 0.5; touch members"
-    came = ran(by=".ci/run", without=(), members=f"{late}; {passes(counted()['members'])}", users=f"touch users; {passes(counted()['users'])}",
-               held_ports=f"[ -e members ] || exit 1; {passes(counted()['held_ports'])}",
-               **{it: f"[ -e {it}-setup ] || exit 1; {passes(counted()[it])}" for it in ("edge", "feed")},
-               **{it: f"sleep 1; touch {it}" for it in checker().SETUPS})
+def test_retries() -> None:
+    """A line of a smoke test that was tried once more stands among the last lines, and is counted there."""
+    came = ran(by=".ci/run", smoke_edge="echo retried: edge: why; echo '1 passed, 0 failed'", smoke_feed="echo 'retried: feed: why'; exit 1")
+    assert (came.status, came.last) == (1, f"{every() - 1} passed, 1 failed")
+    assert {line for line in came.lines[-4:] if line.startswith("retried: ")} == {"retried: edge: why", "retried: feed: why"}
+    assert "; 2 tests tried once more; " in came.lines[-2]
+
+
+def test_the_soak() -> None:
+    """The soak calls each of its parts and no other one, or the parts that are named, and counts what passed. A part that can't be tried
+    has a line."""
+    came = ran(by="scripts/soak")
+    shown = [flat(part.shown(1 if part.is_free() else CORES)) for part in SOAK]
+    assert (came.status, came.last, sorted(came.called)) == (0, f"{sum(counted(SOAK).values())} passed, 0 failed", sorted(shown))
+    came = ran("members", "siege", by="scripts/soak", siege="echo why; echo '12 passed, 1 failed'; exit 1")
+    assert (came.status, came.last) == (1, f"{counted()['members'] + 12} passed, 1 failed")
+    assert sorted(came.called) == sorted(commands(("members", "siege"), 1))
+    came = ran(by="scripts/soak", without=("feed/out/gikvand-feed",))
+    left = {part.name for part in SOAK if part.has("feed")}
+    assert {line.split()[0] for line in came.lines if "is left out: feed/out/gikvand-feed isn't built" in line} == left
+    assert (came.status, len(came.called)) == (0, len(SOAK) - len(left))
+    for words in (("members",), ("play",)):
+        assert ran(*words, by="scripts/soak", without=BUILT).status == 2
+
+
+def test_parts_beside() -> None:
+    """A part that waits runs beside the parts behind it, and one behind the other of its kind; a smoke test of the edge or the feed is
+    behind its setup. A part that needs nothing runs beside the proofs."""
+    came = ran(by=".ci/run", without=(), proofs=f"touch proofs; {until('dictionary')}; {passes(counted()['proofs'])}",
+               dictionary=f"{until('proofs')}; touch dictionary; {passes(counted()['dictionary'])}",
+               smoke_member=f"{until('users')}; touch member; {passes(1)}", users=f"touch users; {passes(counted()['users'])}",
+               **{f"smoke_{name}": f"[ -e member ] && [ -e {name}-setup ] || exit 1; {passes(1)}" for name in ("edge", "feed")},
+               **{name: f"touch {name}" for name in SETUPS})
     assert (came.status, came.last, came.again()) == (0, f"{every()} passed, 0 failed", [])
-    came = ran(by=".ci/run", edge=f"sleep 1; echo '{counted()['edge']} passed, 1 failed'; exit 1")
-    assert (came.status, came.last) == (1, f"{every()} passed, 1 failed")
+    came = ran(by=".ci/run", smoke_edge="echo '1 passed, 1 failed'; exit 1", dictionary=f"echo '{counted()['dictionary']} passed, 1 failed'")
+    assert (came.status, came.last) == (1, f"{every()} passed, 2 failed")
 
 
 def said_by(part: str) -> list[str]:
@@ -171,67 +211,62 @@ def said_by(part: str) -> list[str]:
         return file.read().splitlines()
 
 
-def test_a_part_that_takes_long(capsys: pytest.CaptureFixture, monkeypatch: pytest.MonkeyPatch) -> None:
-    """Of a part that takes long the newest line is shown from time to time. At its end all of its lines are there, and what it took."""
-    monkeypatch.setattr(checker(), "SAID", os.path.abspath("said"))
-    in_some_try(lambda _: takes_long(capsys), "a_part_that_takes_long")
-
-
-def takes_long(capsys: pytest.CaptureFixture) -> None:
-    """Runs such a part. Where this process stands still meanwhile it has nothing to show."""
-    module = checker()
+def test_a_part_that_takes_long(monkeypatch: pytest.MonkeyPatch) -> None:
+    """The newest line of a part that takes long is shown from time to time. At the end of the part all of its lines are there, and what it
+    took of a processor."""
+    monkeypatch.setattr(part_runs, "SAID", os.path.abspath("said"))
     counts = "i=0; while [ $i -lt 100000 ]; do i=$((i + 1)); done"  # By a process of its own.
-    slow = put_text("slow", f"#!/bin/sh\necho first\nsh -c '{counts}'\nsleep 2\necho '3 passed, 0 failed'\n", 0o755)
-    ended = module.Check().ran(module.Part("slow", slow, "quick", 3), 1, 0.5)
-    assert (ended.status, ended.lines, ended.seconds >= 2) == (0, ["first", "3 passed, 0 failed"], True)
-    assert 0.02 <= ended.processor < ended.seconds
-    shown = capsys.readouterr().out.splitlines()
-    if f"{'slow':18}  0 minutes; its newest line: first" not in shown:
-        raise Late(f"expected its newest line came {shown}")
+    slow = put_text("slow", f"#!/bin/sh\necho first\nsh -c '{counts}'\n{until(os.path.abspath('shown'))}\necho '3 passed, 0 failed'\n", 0o755)
+    monkeypatch.setattr(part_runs, "print", shows_first, raising=False)
+    ended = Runs().ran(Part("slow", slow, "quick", 3), 1, 0.05)
+    assert (ended.status, ended.lines, ended.processor > 0) == (0, ["first", "3 passed, 0 failed"], True)
 
 
-def test_a_part_that_stands_still(capsys: pytest.CaptureFixture, monkeypatch: pytest.MonkeyPatch) -> None:
+def shows_first(line: str, **_: object) -> None:
+    """Lets the slow part end, once its first line is shown as the newest one."""
+    if re.fullmatch(r"slow +\d+ minutes; its newest line: first", line):
+        put_text("shown", "")
+
+
+def test_a_part_that_stands_still(monkeypatch: pytest.MonkeyPatch) -> None:
     """A part of the full check that comes to no end is ended, and has failed; the proofs may take as long as they take."""
-    module = checker()
-    monkeypatch.setattr(module, "SAID", os.path.abspath("said"))
-    monkeypatch.setattr(module, "HEARD", 0.5)
-    monkeypatch.setattr(module, "MOST", 0.4)
-    in_some_try(lambda _: stands_still(capsys), "a_part_that_stands_still")
+    monkeypatch.setattr(part_runs, "SAID", os.path.abspath("said"))
+    monkeypatch.setattr(part_runs, "HEARD", 0.05)
+    monkeypatch.setattr(part_runs, "MOST", 0.05)
+    told = list[str]()
 
-
-def stands_still(capsys: pytest.CaptureFixture) -> None:
-    """Runs such a part, and the proofs. Where they say their first line late there is no newest one yet."""
-    module = checker()
-    for name, does, verdict in (("still", "exec sleep 20", (0, 1, "it ended with status -9, and without its last line")),
-                                (module.PROOFS, "sleep 2; echo '1 passed, 0 failed'", (1, 0, ""))):
-        does = put_text(name, f"#!/bin/sh\necho first\n{does}\n", 0o755)
-        assert module.Check().run_one(module.Part(name, does, "quick", 1)) == verdict
-        shown = capsys.readouterr().out
-        if "its newest line: none" in shown:
-            raise Late(f"expected its newest line came {shown}")
-        assert ("are too many; its newest line: first" in shown) == (name == "still")
+    def noted(line: str, **_: object) -> None:
+        """Lets the part end whose line is told."""
+        told.append(line)
+        put_text(f"{line.split()[0]}-told", "")
+    monkeypatch.setattr(part_runs, "print", noted, raising=False)
+    is_told = until(f"{os.path.abspath(PROOFS)}-told")
+    for name, does, verdict in (("still", f"exec sleep {venues.PATIENCE}", (0, 1, "the part ended with status -9, and without its last line")),
+                                (PROOFS, f"{is_told}; echo '1 passed, 0 failed'", (1, 0, ""))):
+        told.clear()
+        assert Runs().run_one(Part(name, put_text(name, f"#!/bin/sh\n{does}\n", 0o755), "quick", 1)) == verdict
+        assert any("are too many; its newest line" in line for line in told) == (name == "still")
 
 
 def test_the_longest_first(monkeypatch: pytest.MonkeyPatch) -> None:
     """Those begin first that took longest the last time. What hasn't run yet counts by its mark."""
-    module = checker()
-    monkeypatch.setattr(module, "SAID", os.path.abspath("said"))
-    monkeypatch.setattr(module, "CORES", 1)
+    monkeypatch.setattr(part_runs, "SAID", os.path.abspath("said"))
+    monkeypatch.setattr(part_runs, "CORES", 1)
     does = put_text("does", '#!/bin/sh\necho "$1" >>asked\necho "1 passed, 0 failed"\n', 0o755)
-    monkeypatch.setattr(module, "ROOT", os.getcwd())
-    parts = [module.Part(name, f"{does} {name}", marks, 1) for name, marks in (
+    monkeypatch.setattr(part_runs, "ROOT", os.getcwd())
+    parts = [Part(name, f"{does} {name}", marks, 1) for name, marks in (
         ("one", "quick"), ("two", "slow"), ("three", "quick"), ("four", "slow"), ("five", "quick"))]
     for name, seconds in (("three", "70.5"), ("four", "2"), ("five", "no number")):
         put_text(f"said/{name}.seconds", seconds)
-    assert [module.last_time(it) for it in parts] == ["-", "-", "70 s", "2 s", "-"]
-    check = module.Check()
-    check.run_beside(parts, False)
+    assert [part_runs.last_time(it) for it in parts] == ["-", "-", "70 s", "2 s", "-"]
+    runs = Runs()
+    runs.run_beside(parts, False)
     with open("asked", encoding="ascii") as file:
         assert file.read().split() == ["three", "two", "four", "one", "five"]
-    assert (check.passed, check.failed, module.took(parts[2]) < 70) == (5, 0, True)
+    assert (runs.passed, runs.failed, part_runs.last_time(parts[2]) != "70 s") == (5, 0, True)
 
 
-EVERY_KIND = pytest.mark.parametrize("part", ("users", "proofs", "siege"))  # By pytest, by a program of the path, and by one of the tree.
+EVERY_KIND = pytest.mark.parametrize("part", ("users", "proofs", "refused_memory"))  # By pytest, by a program of the path, and by one of the tree.
 
 
 @EVERY_KIND
@@ -247,7 +282,7 @@ def test_parts_that_fail(part: str, does: str, passed: int | str, failed: int) -
     came = ran(by=".ci/run", without=(), **{part: does.format(least=least)})
     wanted = every() - least + (least if passed == "least" else int(passed))
     assert (came.status, came.last) == (1, f"{wanted} passed, {failed} failed")
-    command, = commands({part})
+    command, = of_check({part})
     assert came.again()[:1] == [f"== what failed has said last: {command}"]
     if "why" in does:
         assert "why it fails" in came.again()
@@ -256,13 +291,10 @@ def test_parts_that_fail(part: str, does: str, passed: int | str, failed: int) -
 def test_a_setup_that_fails() -> None:
     """Where edge/setup ends badly that counts, and no part of the edge is called, and so with the feed's; dev/measures counts as any
     part."""
-    module = checker()
-    more: dict[str, set[str]] = {"edge-setup": {"framer", "known_bad"}}
-    for setup in module.SETUPS:
+    for setup, behind in (("edge-setup", {"framer", "smoke_edge"}), ("feed-setup", {"smoke_feed"})):
         came = ran(by=".ci/run", without=(), **{setup: "exit 1"})
-        behind = more.get(setup, set()) | {it.name for it in module.PARTS if setup.split("-")[0] in it.name} - {setup}
         assert (came.status, came.last) == (1, f"{every() - sum(counted()[it] for it in behind)} passed, 1 failed")
-        assert sorted(came.called) == sorted(set(commands()) - set(commands(behind)))
+        assert sorted(came.called) == sorted(set(of_check()) - set(of_check(behind)))
     came = ran(by=".ci/run", without=(), measures="echo bad; exit 1")
     assert (came.status, came.last) == (1, f"{every() - counted()['measures']} passed, 1 failed")
 
@@ -271,14 +303,13 @@ def test_proofs_that_fail() -> None:
     """Where the proofs fail and make no programs, no part is called that takes one, and what is shown at the end are the prover's
     reasons and last lines. Where the programs are there all others are called."""
     fails = f"echo x NOT PROVED; seq 100; echo '{counted()['proofs']} passed, 1 failed'; exit 1"
-    module = checker()
     cases: list[tuple[tuple[str, ...], set[str]]] = [(BUILT[:1], {"built"}), (BUILT[:4], {"built", "bench"}), ((), set())]
     for without, marks in cases:
         came = ran(by=".ci/run", without=without, proofs=fails)
-        behind = {it.name for it in module.PARTS if marks.intersection(it.marks.split())}
+        behind = {it.name for it in GATE if marks.intersection(it.marks.split())}
         assert (came.status, came.last) == (1, f"{every() - sum(counted()[it] for it in behind)} passed, 1 failed")
-        assert sorted(came.called) == sorted(set(commands()) - set(commands(behind)))
-        assert {it.split()[0] for it in came.lines if "  is left out: what it takes couldn't be made (" in it} == behind
+        assert sorted(came.called) == sorted(set(of_check()) - set(of_check(behind)))
+        assert {it.split()[0] for it in came.lines if "  is left out: what it needs couldn't be made (" in it} == behind
         assert came.again()[:3] == ["== what failed has said last: rt ci", "x NOT PROVED", "62"]
 
 
@@ -296,9 +327,9 @@ def test_a_network_of_its_own() -> None:
     if subprocess.run(["unshare", "--net", "ip", "link", "set", "lo", "up"], stderr=subprocess.DEVNULL).returncode:
         pytest.skip("no network of its own can be had")
     sees = "readlink /proc/self/ns/net >net-{name}; ip -o addr show up >at-{name}; {waits}; {passes}"
-    names, beside = ("users", "members", "package", "known_bad"), {"users": "members", "members": "users"}
+    names, beside = ("users", "smoke_member", "smoke_package"), {"users": "smoke_member", "smoke_member": "users"}
     # (A number is given again once its network has gone: two that are compared are there at the same time.)
-    waits = {it: f"for it in $(seq 900); do [ -e net-{other} ] && break; sleep 0.1; done" for it, other in beside.items()}
+    waits = {it: until(f"net-{other}") for it, other in beside.items()}
     ran(by=".ci/run", without=(), **{it: sees.format(name=it, waits=waits.get(it, "true"), passes=passes(counted()[it])) for it in names})
     networks = []
     for name in names:
@@ -306,7 +337,7 @@ def test_a_network_of_its_own() -> None:
             networks.append(net.read().strip())
             assert (name, "inet 127.0.0.1/8" in at.read()) == (name, True)
     ours = os.readlink("/proc/self/ns/net")
-    assert (len(set(networks[:2])), ours in networks[:2], networks[2:]) == (2, False, [ours] * 2)
+    assert (len(set(networks[:2])), ours in networks[:2], networks[2:]) == (2, False, [ours])
 
 
 @pytest.mark.parametrize("words", (
@@ -351,38 +382,39 @@ def test_parts_that_crash(part: str, does: str) -> None:
     """A part that ends by a signal, or with a status that its last line doesn't say, has failed."""
     came = ran(by=".ci/run", without=(), **{part: f"{passes(counted()[part])}; {does}"})
     assert (came.status, came.last) == (1, f"{every()} passed, 1 failed")
-    assert any(it.startswith(f"{part}: it ended with status ") for it in came.again())
+    assert any(it.startswith(f"{part}: the part ended with status ") for it in came.again())
 
 
 def test_a_part_that_is_not_there() -> None:
-    came = ran(by=".ci/run", without=("dev/siege",))
-    assert (came.status, came.last) == (1, f"{every() - counted()['siege']} passed, 1 failed")
-    assert "dev/siege can't be run" in came.again()
+    came = ran(by=".ci/run", without=("dev/measures",))
+    assert (came.status, came.last) == (1, f"{every() - counted()['measures']} passed, 1 failed")
+    assert "dev/measures can't be run" in came.again()
 
 
 def test_parts_of_fewer_tests() -> None:
     """A part of which fewer tests were tried than its least count has failed, and a line says so; what failed of them counts as tried."""
     fewer = {name: passes(least - 1) for name, least in counted().items()}
-    for words, by, names in (((), ".ci/run", list(counted())), ((), "scripts/check", [it for it in counted() if not is_long(it)])):
+    for words, by, names in (((), ".ci/run", list(counted(GATE))), ((), "scripts/check", list(counted(without_proof())))):
         came = ran(*words, by=by, without=(), **fewer)
         passed = sum(counted()[it] - 1 for it in names)
         assert (by, came.status, came.last) == (by, 1, f"{passed} passed, {len(names)} failed")
         for it in names:
-            said = f"{counted()[it] - 1} of its tests were tried, and it has {counted()[it]} at least"
+            said = f"{counted()[it] - 1} tests of the part were tried, and the part has {counted()[it]} at least"
             assert (by, it, f"{it}: {said}" in came.again()) == (by, it, True)
     came = ran(by=".ci/run", users=f"echo '{counted()['users'] - 1} passed, 1 failed'; exit 1")
     assert (came.status, came.last) == (1, f"{every() - 1} passed, 1 failed")
     assert [it for it, least in counted().items() if least < 1] == []
 
 
-def is_long(name: str) -> bool:
-    return next(it for it in checker().PARTS if it.name == name).has("long")
+def without_proof() -> list[Part]:
+    """Returns the parts of the full check that need no proof."""
+    return [part for part in GATE if not part.has("long")]
 
 
 def test_side_by_side() -> None:
     """Without words each part that takes no proof is called once, and with names those alone. The last lines of each that fails are
     shown at the end."""
-    short = {it.name for it in checker().PARTS if not it.has("long")}
+    short = {it.name for it in without_proof()}
     came = ran()
     assert (came.status, came.last) == (0, f"{sum(counted()[it] for it in short)} passed, 0 failed")
     assert sorted(came.called) == sorted(commands(short, 1))
@@ -390,7 +422,7 @@ def test_side_by_side() -> None:
     came = ran("users", "wrong_edges", wrong_edges=f"echo why it fails; echo '{least} passed, 2 failed'; exit 1")
     assert (came.status, came.last) == (1, f"{counted()['users'] + least} passed, 2 failed")
     assert sorted(came.called) == sorted(commands({"users", "wrong_edges"}, 1))
-    command, = commands({"wrong_edges"})
+    command, = commands({"wrong_edges"}, CORES)
     assert came.again()[:2] == [f"== what failed has said last: {command}", "why it fails"]
     came = ran(users="kill -KILL $$")
     assert (came.status, came.last.endswith(" passed, 1 failed")) == (1, True)
@@ -408,22 +440,26 @@ def test_nothing_is_built() -> None:
     assert (came.status, came.called) == (2, [])
     came = ran("dictionary", without=BUILT)
     assert (came.status, len(came.called)) == (0, 1)
-    for without, part, why in ((("edge/out/tradeclient",), "edge", "edge/out/tradeclient isn't built: edge/setup --tests builds it"),
-                               (("crates/bench/out/bench",), "twins", "crates/bench/out/bench isn't built: `rt run` in crates/bench"),
-                               (("chromium",), "board", "without Chromium nothing of it can be tried"),
-                               (("glusterd",), "drill", "without Debian's glusterfs-server and glusterfs-client nothing of it can be tried"),
-                               (("valgrind",), "instructions", "without Debian's valgrind nothing of it can be tried")):
-        if any(shutil.which(it, path="/usr/bin:/bin") for it in (checker().BROWSERS if part == "board" else without)):
-            continue
+    for without, part, why in ((("edge/out/tradeclient",), "smoke_edge", "edge/out/tradeclient isn't built: edge/setup --tests builds it"),
+                               (("crates/bench/out/bench",), "twins", "crates/bench/out/bench isn't built: `rt run` in crates/bench")):
         came = ran(without=without)
         assert (came.status, [it for it in came.lines if it.startswith(f"{part:18}  is left out: {why}")] != []) == (0, True)
         command, = commands({part}, 1)
         assert (part, command in came.called) == (part, False)
 
 
+def test_lacking_packages(monkeypatch: pytest.MonkeyPatch) -> None:
+    """A part is left out whose program of Debian isn't there, and the reason names the packages."""
+    monkeypatch.setenv("PATH", os.getcwd())
+    monkeypatch.delenv("CHROMIUM", raising=False)
+    lacking = {part.name: part.lacking() for part in PARTS if part.name in ("smoke_board", "instructions", "drill")}
+    assert lacking == {"smoke_board": "without Chromium nothing of it can be tried", "instructions": "without Debian's valgrind nothing of it can be tried",
+                       "drill": "without Debian's glusterfs-server and glusterfs-client nothing of it can be tried"}
+
+
 def test_words_of_the_check() -> None:
     """Its help and its list say what there is, and run nothing; words that are none end it with status 2."""
-    names = [it.name for it in checker().PARTS]
+    names = [it.name for it in PARTS]
     assert len(set(names)) == len(names)
     for by in ("scripts/check", ".ci/run"):
         came = ran("--help", by=by)
@@ -440,28 +476,29 @@ def test_words_of_the_check() -> None:
 
 
 def test_no_part_is_left_out() -> None:
-    """Each test and check that can be called is a part of the full check, or one of those that are no parts. Each module of tests and each
-    play is of one part."""
+    """Each test and check that can be called is a part of the full check or of the soak, or one of those that are no parts. Each module of
+    tests and each play is of one part, and of one more where tests of the module have the mark of the soak."""
     listed = subprocess.run(["git", "-C", ROOT, "ls-files", "-s", "tests", "dev", "edge", "feed"], capture_output=True, text=True).stdout
     files = {line.split("\t")[1]: line.split()[0] for line in listed.splitlines()}
     programs = {it for it, mode in files.items() if mode == "100755"}
-    called = {it.split()[0] for it in commands()} - {"rt", "pytest"}
+    shown = [part.command for part in PARTS]
+    called = {it.split()[0] for it in shown} - {"rt", "pytest"}
     assert sorted(programs - called - NO_PARTS) == []
     assert sorted(called - programs) == []
-    assert len(set(commands())) == len(commands())
+    assert len(set(shown)) == len(shown)
     tried = [path for it in of_pytest() for path in files if is_of(it, path)]
     assert sorted(tried) == sorted(it for it in files if covers("tests/test_*.py", os.path.join("tests", os.path.basename(it)))
                                    or it.endswith(".play"))
 
 
-def of_pytest() -> list:
-    """The parts that pytest runs."""
-    return [it for it in checker().PARTS if it.command.startswith("pytest ")]
+def of_pytest() -> list[Part]:
+    """Returns the parts that pytest runs, but for the tests of all modules that have the mark of the soak."""
+    return [part for part in PARTS if part.command.startswith("pytest ") and part.name != MARKED]
 
 
-def is_of(part: tuple, path: str) -> bool:
+def is_of(part: Part, path: str) -> bool:
     """Whether tests of this file are of a part that pytest runs."""
-    words = part[1].split()
+    words = part.command.split()
     return any(covers(word, path) for word in words) and f"--ignore={path}" not in words
 
 
@@ -482,13 +519,20 @@ def test_what_the_prover_refuses() -> None:
 def test_least_counts() -> None:
     """The least count of a part that pytest runs is no more than there are tests, and not much less; that of the proofs is of all crates
     and of all edits that the kit tries; and of the wrong bodies that were asked for none is left out, and a right one is tried."""
-    least = {it.command.split(" --as-made")[0]: it.least for it in checker().PARTS}
+    least = {it.command.split(" --as-made")[0]: it.least for it in PARTS}
     apart, within = (len(glob.glob(os.path.join(ROOT, it))) for it in ("must-fail/*/*.edit", "crates/*/must-fail/*.edit"))
     assert least["rt ci"] == len(crates.listed()) + within
     assert least["dev/edits --must-fail"] == apart + within + 1
-    said = subprocess.run([sys.executable, "-m", "pytest", "-q", "-n", "0", "--collect-only", "tests"], cwd=ROOT, capture_output=True, text=True,
-                          timeout=4 * PATIENCE).stdout
-    tests = collections.Counter(line.partition("::")[0] for line in said.splitlines() if "::" in line)
-    for it in of_pytest():
-        count = sum(tests[path] for path in tests if is_of(it, path))
+    tests = collected()
+    counts = {it.name: sum(tests[path] for path in tests if is_of(it, path)) for it in of_pytest()}
+    counts[MARKED] = sum(collected("-m", "soak and not long").values())
+    for it in PARTS:
+        count = counts.get(it.name, it.least)
         assert 0.9 * count <= it.least <= count, f"{it.name} has {count} tests, and the least count is {it.least}"
+
+
+def collected(*words: str) -> collections.Counter[str]:
+    """Returns how many tests each file has that pytest runs with these words."""
+    said = subprocess.run([sys.executable, "-m", "pytest", "-q", "-n", "0", "--collect-only", *words, "tests"], cwd=ROOT, capture_output=True,
+                          text=True, timeout=4 * PATIENCE).stdout
+    return collections.Counter(line.partition("::")[0] for line in said.splitlines() if "::" in line)

@@ -20,7 +20,6 @@ pytestmark = pytest.mark.quick
 
 OWN = (*(f"dev/{it}" for it in ("pages", "results.py", "with_scripts.py")),
        *(f"scripts/{it}" for it in ("crates.py", "needs_python.py", "with_tools.py")))
-PATIENCE = 120
 INDEX, WRONG_BODIES, CLAUSES = "docs/decisions/README.md", "docs/WRONG_BODIES.md", "docs/CLAUSES.md"
 EDITS = "print('### rings\\n\\n- `claim`: **`claims_all`**, `claims_none`\\n\\n### venue\\n\\n- `f`: `g`\\n')\n"
 PARTS = ("**Context.** One has to.", "**Choice.** Two.", "**Price.** Three.")
@@ -77,7 +76,7 @@ def text_of(path: str) -> str:
 def pages(*words: str) -> tuple[int, list[str]]:
     """The status of dev/pages, and all its lines."""
     it = subprocess.run([sys.executable, "dev/pages", *words], stdout=subprocess.PIPE, stderr=subprocess.STDOUT, text=True,
-                        timeout=PATIENCE)
+                        timeout=checks.LONG)
     return it.returncode, it.stdout.splitlines()
 
 
@@ -313,8 +312,6 @@ QUOTED = [
     Quoted("README.md", r"scripts/first-order +(half a minute): an order", [[("check", "`scripts/first-order`", 0, 0)]]),
     Quoted("README.md", r"`scripts/build` takes up to (half an hour) on four cores", [[("check", "`scripts/build` from nothing", 0, 0)]],
            True),
-    Quoted("README.md", r"checks everything from nothing, in (\d+) to (\d+) minutes on four cores",
-           [[("check", "the full check on four cores", 0, it)] for it in (0, 1)]),
     Quoted("docs/OPERATING.md", r"`--check` compares all lines, some (\d+) MB a second", [[("tools", "`audit --check`", 0, 0)]]),
     Quoted("docs/OPERATING.md", r"the rest between the looks, (\d+) MB a second", [[("tools", "`follow`, what it compares", 0, 0)]]),
     Quoted("docs/OPERATING.md", r"a start, `check`, `snapshot` and `carry` take (\d+) MB",
