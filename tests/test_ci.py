@@ -55,7 +55,7 @@ BUILT = ("crates/venued/out/venued", "crates/venue_replay/out/venue_replay", "cr
          "crates/bench/out/bench", "edge/out/gikvand-edge", "edge/out/tradeclient", "edge/out/FIX44.xml",
          "crates/edge_frames_c/out/libedge_frames_c.a", "feed/out/gikvand-feed")
 # Executables that are no parts, or are called by one.
-NO_PARTS = {"dev/play", "dev/images", "dev/bench", "dev/bench-tools", "dev/bench-venue", "dev/kill-and-restart", "dev/reads",
+NO_PARTS = {"dev/play", "dev/same-verdict", "dev/images", "dev/bench", "dev/bench-tools", "dev/bench-venue", "dev/kill-and-restart", "dev/reads",
             "tests/oracle/replay_rules.py", "tests/oracle/events_rules.py", "edge/certify", "edge/speed", "edge/try",
             "feed/servers", "feed/speed"}
 
