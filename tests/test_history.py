@@ -1,4 +1,4 @@
-"""Tests of the form that commits have, as docs/CONTRIBUTING.md says: the newest five, and messages that are wrong in one thing."""
+"""Tests of the form that commits have, as docs/CONTRIBUTING.md says: the newest ten, and messages that are wrong in one thing."""
 import re
 import subprocess
 
@@ -8,7 +8,7 @@ from checks import ROOT
 
 pytestmark = pytest.mark.quick
 
-NEWEST = 5  # Commits that are looked at: a landing has no more.
+NEWEST = 10  # Commits that are looked at: a landing has mostly no more.
 LONGEST, WIDEST = 72, 120  # Letters of a subject, and of a line of a body.
 SUBJECT = re.compile(r"[a-z0-9_./-]+(, [a-z0-9_./-]+)*: \S.*[^.\s]")
 RIGHT = "edge, feed: one form for both\n\nTwo forms differed in three lines. 12 files change.\n"
